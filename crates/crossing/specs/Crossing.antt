@@ -1,0 +1,65 @@
+-- One crossing: its exact fraction, its point as floats, and the call. Assumes nothing.
+-- Definitions: `num`, `den` the fraction of the way; `along` a coordinate moved by it; `crossingVerdict`, `crossingAnswer` the call.
+use mathlib.Core.Bool.{Bool, true, false, not, cond}
+use mathlib.Core.List.{List, [], _∷_}
+use Prim.Native.Nat.{ℕ, _+_, _*_, _/_, _%_}
+use lib.IntN.{pos}
+use lib.Ieee.{Float, binary64, add, div, ofInt}
+use Rattle.tally.specs.Tally.{apart}
+use Rattle.matte.specs.declared.Verdict.{Verdict}
+use Rattle.matte.specs.Layout.{Layout}
+use Rattle.matte.specs.Picture.{Picture, at, high}
+use Rattle.matte.specs.Refusal.{verdict, row, answer, afterwards, sidesRow, samplesRow, levelsRow}
+use Rattle.edgel.specs.Heading.{number}
+use Rattle.edgel.specs.Edgel.{horizontal, first, second, column, crossed, headingAt}
+use Rattle.edgel.specs.Edgel as Edgel
+use Rattle.edgel.specs.Word.{codeRow}
+use Rattle.crossing.specs.declared.Crossing.{Crossing}
+
+-- a whole number as a float
+abbrev pub whole : ℕ → Float
+whole n = ofInt binary64 (pos n)
+
+-- n plus the quotient a/b: one division and one addition, each rounded once (01, Picture, levels, edgels)
+unfoldable pub along : ℕ → ℕ → ℕ → Float
+along n a b = add binary64 (whole n) (div binary64 (whole a) (whole b))
+
+module _ (P : Picture) (k c : ℕ) where
+  -- num = |2k + 1 − 2·the left or top sample| (01, Picture, levels, edgels)
+  unfoldable pub num : ℕ
+  num = apart (2 * k + 1) (2 * at P (first c))
+
+  -- den = 2·|difference of the ends|, not reduced (01, Picture, levels, edgels)
+  unfoldable pub den : ℕ
+  den = 2 * apart (at P (first c)) (at P (second (P .w) c))
+
+  -- the coordinate along the edgel is moved, the other is whole (01, Picture, levels, edgels)
+  abbrev pub pointX : Float
+  pointX = cond (horizontal c) (along (column (P .w) c) num den) (whole (column (P .w) c))
+
+  abbrev pub pointY : Float
+  pointY = cond (horizontal c) (whole (Edgel.row (P .w) c)) (along (Edgel.row (P .w) c) num den)
+
+  module _ (L : Layout) where
+    -- 1 2 3 8 10 (01, Numbers for a refused call)
+    abbrev pub crossingVerdict : Verdict
+    crossingVerdict =
+        verdict
+        (sidesRow (P .w) (P .h)
+        ∷ samplesRow P
+        ∷ levelsRow L (k ∷ [])
+        ∷ codeRow (P .w) (P .h) c
+        ∷ row 10 (not (crossed (high P k) (P .w) c))
+        ∷ [])
+
+    -- refused, every further number is 0 (01, Numbers for a refused call)
+    abbrev pub crossingAnswer : Crossing
+    crossingAnswer =
+        record {
+          answer = answer crossingVerdict 0 0;
+          heading = afterwards crossingVerdict 0 (number (headingAt (high P k) c));
+          num = afterwards crossingVerdict 0 num;
+          den = afterwards crossingVerdict 0 den;
+          x = afterwards crossingVerdict (whole 0) pointX;
+          y = afterwards crossingVerdict (whole 0) pointY;
+        }

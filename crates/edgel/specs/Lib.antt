@@ -1,0 +1,4 @@
+pub mod Heading
+pub mod Edgel
+pub mod Word
+pub mod Beside

@@ -1,0 +1,51 @@
+-- The tree call. Assumes nothing.
+-- Definitions: `heads` the horizontal crossings of a level, `half` half of those of all levels; `treeVerdict`, `treeAnswer`, `treeWork`, `treeWords`, `treeEntries` the call: its refusal, its answer, the work
+--   bytes, the word places and the tree places afterwards.
+use mathlib.Core.List.{List, [], _∷_, _++_}
+use Prim.Native.Nat.{ℕ, _+_, _*_, _/_}
+use lib.Dec.{ltb}
+use lib.ListN.{length, drop, replicate}
+use Rattle.tally.specs.Tally.{one, sum, total, tally}
+use Rattle.matte.specs.declared.Answer.{Answer}
+use Rattle.matte.specs.declared.Verdict.{Verdict}
+use Rattle.matte.specs.Layout.{Layout}
+use Rattle.matte.specs.Picture.{Picture, size}
+use Rattle.matte.specs.Refusal.{verdict, rowAt, answer, afterwards, sidesRow, samplesRow, levelsRow, borderRow, workRow, wordsRow}
+use Rattle.edgel.specs.Word.{flagged}
+use Rattle.outline.specs.Line.{cutAt}
+use Rattle.outline.specs.List.{listed}
+use Rattle.enclosure.specs.Tree.{entries, lineCount}
+
+-- horizontal codes are the even ones (01, Numbers for a refused call, 7)
+unfoldable pub heads : Picture → ℕ → ℕ
+heads P k = sum (λ i. one (cutAt P k (2 * i))) (size P)
+
+unfoldable pub half : Picture → List ℕ → ℕ
+half P ks = total (heads P) ks / 2
+
+module _ (L : Layout) (P : Picture) (ks work out tree : List ℕ) where
+  -- 1 2 3 4 5 6, then 7: fewer tree places than half the horizontal crossings of all levels (01, Numbers for a refused call)
+  abbrev pub treeVerdict : Verdict
+  treeVerdict =
+      verdict
+      (sidesRow (P .w) (P .h)
+      ∷ samplesRow P
+      ∷ levelsRow L ks
+      ∷ borderRow P
+      ∷ workRow P work
+      ∷ wordsRow out (length (listed L P ks))
+      ∷ rowAt 7 (ltb (length tree) (half P ks)) (half P ks)
+      ∷ [])
+
+  abbrev pub treeAnswer : Answer
+  treeAnswer = answer treeVerdict (length (listed L P ks)) (tally (flagged L) (listed L P ks))
+
+  abbrev pub treeWork : List ℕ
+  treeWork = afterwards treeVerdict work (replicate (size P) 0 ++ drop (size P) work)
+
+  abbrev pub treeWords : List ℕ
+  treeWords = afterwards treeVerdict out (listed L P ks ++ drop (length (listed L P ks)) out)
+
+  -- the first places hold the entries, a line each, the rest are left (01, Numbers for a refused call)
+  abbrev pub treeEntries : List ℕ
+  treeEntries = afterwards treeVerdict tree (entries L P ks ++ drop (lineCount L P ks) tree)

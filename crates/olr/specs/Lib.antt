@@ -1,0 +1,3 @@
+pub mod Block
+pub mod File
+pub mod Read

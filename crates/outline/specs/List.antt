@@ -1,0 +1,57 @@
+-- The whole list as words, and the list call. Assumes nothing.
+-- Definitions: `encode` a line as words, its first flagged; `levelWords` the lines of a level; `listed` all levels; `listVerdict`, `listAnswer`, `listWork`, `listWords` the call: its refusal, its
+--   answer, the work bytes and the word places afterwards.
+use mathlib.Core.Bool.{Bool, true, false}
+use mathlib.Core.List.{List, [], _∷_, _++_}
+use Prim.Native.Nat.{ℕ, _+_}
+use lib.ListN.{length, drop, replicate}
+use Rattle.tally.specs.Tally.{tally}
+use Rattle.matte.specs.declared.Answer.{Answer}
+use Rattle.matte.specs.declared.Verdict.{Verdict}
+use Rattle.matte.specs.Layout.{Layout}
+use Rattle.matte.specs.Picture.{Picture, size}
+use Rattle.matte.specs.Refusal.{verdict, answer, afterwards, sidesRow, samplesRow, levelsRow, borderRow, workRow, wordsRow}
+use Rattle.edgel.specs.Word.{word, flagged}
+use Rattle.outline.specs.Line.{lines}
+
+module _ (L : Layout) where
+  -- the words of level k of a line's crossings, the first one flagged where b (01, Picture, levels, edgels)
+  unfoldable pub encode : ℕ → Bool → List ℕ → List ℕ
+  encode k b [] = []
+  encode k b (c ∷ l) = word L c k b ∷ encode k false l
+
+  -- one line after the other (01, Following a line)
+  unfoldable pub levelWords : ℕ → List (List ℕ) → List ℕ
+  levelWords k [] = []
+  levelWords k (l ∷ ls) = encode k true l ++ levelWords k ls
+
+  module _ (P : Picture) where
+    -- the levels in order (01, Following a line)
+    unfoldable pub listed : List ℕ → List ℕ
+    listed [] = []
+    listed (k ∷ ks) = levelWords k (lines P k) ++ listed ks
+
+    module _ (ks work out : List ℕ) where
+      -- 1 2 3 4 5 6 (01, Numbers for a refused call)
+      abbrev pub listVerdict : Verdict
+      listVerdict =
+          verdict
+          (sidesRow (P .w) (P .h)
+          ∷ samplesRow P
+          ∷ levelsRow L ks
+          ∷ borderRow P
+          ∷ workRow P work
+          ∷ wordsRow out (length (listed ks))
+          ∷ [])
+
+      -- the words handed over and the flags among them (01, Numbers for a refused call)
+      abbrev pub listAnswer : Answer
+      listAnswer = answer listVerdict (length (listed ks)) (tally (flagged L) (listed ks))
+
+      -- the first w·h work bytes are 0, the rest are left (01, Numbers for a refused call)
+      abbrev pub listWork : List ℕ
+      listWork = afterwards listVerdict work (replicate (size P) 0 ++ drop (size P) work)
+
+      -- the list fills the first places, the rest are left (01, Numbers for a refused call)
+      abbrev pub listWords : List ℕ
+      listWords = afterwards listVerdict out (listed ks ++ drop (length (listed ks)) out)

@@ -1,0 +1,18 @@
+-- The lines of any word list. Assumes nothing.
+-- Definitions: `rest` the words before the next flagged one; `part` line n.
+use mathlib.Core.Bool.{Bool, true, false}
+use mathlib.Core.List.{List, [], _∷_}
+use Prim.Native.Nat.{ℕ, zero, suc}
+use Rattle.matte.specs.Layout.{Layout}
+use Rattle.edgel.specs.Word.{flagged}
+
+module _ (L : Layout) where
+  -- up to the next flagged word or the end (01, Framing, membership, painting)
+  unfoldable pub rest : List ℕ → List ℕ
+  rest [] = []
+  rest (u ∷ ws) = elim (flagged L u) [ true ↦ [] | false ↦ u ∷ rest ws ]
+
+  -- from the n-th flagged word, counted from 0, up to the next; none where there are fewer (01, Framing, membership, painting)
+  unfoldable pub part : ℕ → List ℕ → List ℕ
+  part n [] = []
+  part n (u ∷ ws) = elim (flagged L u) [ true ↦ elim n [ zero ↦ u ∷ rest ws | suc m ↦ part m ws ] | false ↦ part n ws ]

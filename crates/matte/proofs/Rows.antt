@@ -1,0 +1,42 @@
+-- Going through the rows of a call's refusals. Assumes nothing.
+-- Main laws: `given` a row that is given decides the verdict; `passed` one that is not is passed over; `unfit`, `fit` the same for a row that asks for a test to hold;
+--   `done-answer`, `refused-answer`, `done-after`, `refused-after` what a verdict makes of the answer and of lent memory.
+use mathlib.Core.Path.{_≡_, refl, sym, ap, _∙_}
+use mathlib.Core.Bool.{Bool, true, false, not, cond}
+use mathlib.Core.List.{List, [], _∷_}
+use Prim.Native.Nat.{ℕ}
+use lib.Dec.{eqb}
+use borrow.Author.Tests.{eq-eqb, ne-eqb}
+use Rattle.matte.specs.declared.Answer.{Answer}
+use Rattle.matte.specs.declared.Verdict.{Verdict}
+use Rattle.matte.specs.Refusal.{Row, row, verdict, answer, afterwards}
+
+pub given : (r : Row) (rs : List Row) → r .given ≡ true → verdict (r ∷ rs) ≡ record { number = r .number; place = r .place }
+given r rs e = ap (λ (b : Bool). cond b (record { number = r .number; place = r .place }) (verdict rs)) e
+
+pub passed : (r : Row) (rs : List Row) → r .given ≡ false → verdict (r ∷ rs) ≡ verdict rs
+passed r rs e = ap (λ (b : Bool). cond b (record { number = r .number; place = r .place }) (verdict rs)) e
+
+pub unfit : (n : ℕ) (b : Bool) (rs : List Row) → b ≡ false → verdict (row n (not b) ∷ rs) ≡ record { number = n; place = 0 }
+unfit n b rs e = given (row n (not b)) rs (ap not e)
+
+pub fit : (n : ℕ) (b : Bool) (rs : List Row) → b ≡ true → verdict (row n (not b) ∷ rs) ≡ verdict rs
+fit n b rs e = passed (row n (not b)) rs (ap not e)
+
+module _ (v : Verdict) (words lines : ℕ) where
+  pub done-answer : v .number ≡ 0 → answer v words lines ≡ record { number = 0; place = 0; words = words; lines = lines }
+  done-answer e =
+      ap (λ (b : Bool). cond b (record { number = 0; place = 0; words = words; lines = lines }) (record { number = v .number; place = v .place; words = 0; lines = 0 }))
+      (eq-eqb (v .number) 0 e)
+
+  pub refused-answer : (v .number ≡ 0 → ⊥) → answer v words lines ≡ record { number = v .number; place = v .place; words = 0; lines = 0 }
+  refused-answer e =
+      ap (λ (b : Bool). cond b (record { number = 0; place = 0; words = words; lines = lines }) (record { number = v .number; place = v .place; words = 0; lines = 0 }))
+      (ne-eqb (v .number) 0 e)
+
+module _ {A : Type 0} (v : Verdict) (was done : A) where
+  pub done-after : v .number ≡ 0 → afterwards v was done ≡ done
+  done-after e = ap (λ (b : Bool). cond b done was) (eq-eqb (v .number) 0 e)
+
+  pub refused-after : (v .number ≡ 0 → ⊥) → afterwards v was done ≡ was
+  refused-after e = ap (λ (b : Bool). cond b done was) (ne-eqb (v .number) 0 e)

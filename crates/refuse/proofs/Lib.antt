@@ -1,0 +1,3 @@
+pub mod Sides
+pub mod Levels
+pub mod Border

@@ -1,1 +1,1 @@
-// No code yet.
+// No code: the promises of the whole, as theorems.

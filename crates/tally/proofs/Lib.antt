@@ -1,2 +1,9 @@
 pub mod Test
+pub mod Sum
+pub mod Count
+pub mod Pick
+pub mod Parity
 pub mod Every
+pub mod First
+pub mod Build
+pub mod Fill

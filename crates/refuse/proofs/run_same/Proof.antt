@@ -9,7 +9,7 @@ use borrow.Author.Tests.{eq-eqb, ne-eqb}
 use lib.Dec.{eqb}
 use lib.ListN.{length, getD}
 use Rattle.tally.specs.Tally.{every}
-use Rattle.tally.proofs.Every.{every-not, every-none, every-more}
+use Rattle.tally.proofs.Every.{every-not, every-none, every-next}
 use Rattle.refuse.proofs.run_same.Statement.{statement}
 use Rattle.refuse.proofs.run_same.Tie as tie
 
@@ -53,7 +53,7 @@ loop-again c =
     let a = l .before .args in (
       omega (arith, c .before .before .loop-test .taken),
       omega (arith, l .loop .inv .1),
-      every-more (λ t. eqb (getD (a .px .now) (a .from + t * a .step) 0) (a .v)) (l .loop .j) (l .loop .inv .2)
+      every-next (λ t. eqb (getD (a .px .now) (a .from + t * a .step) 0) (a .v)) (l .loop .j) (l .loop .inv .2)
           (eq-eqb _ _ (ap (λ (z : ℕ). getD (a .px .now) z 0) (sym (l .loop .inv .1)) ∙ c .if1 .left)),
     )
 

@@ -39,8 +39,8 @@ module _ {f : ℕ → ℕ} {ok : ℕ → Bool} {n : ℕ} (K : Closed f ok n) (he
   pub record Marks (i : ℕ) (m : ℕ → Bool) : Type 0 where
     pub tell : (d : ℕ) (h : ok d ≡ true) → head d ≡ true → m d ≡ ltb (lead K head X d h) i
 
-  pub marks-start : (m : ℕ → Bool) → ((d : ℕ) → head d ≡ true → m d ≡ false) → Marks 0 m
-  marks-start m q = record { tell = λ d h k. q d k ∙ sym (le-ltb (lead K head X d h) 0 (omega arith)) }
+  pub marks-start : (m : ℕ → Bool) → ((d : ℕ) → ok d ≡ true → head d ≡ true → m d ≡ false) → Marks 0 m
+  marks-start m q = record { tell = λ d h k. q d h k ∙ sym (le-ltb (lead K head X d h) 0 (omega arith)) }
 
   -- a head that is ok leads exactly if it is not marked when the scan comes to it
   pub marks-tell : (i : ℕ) (m : ℕ → Bool) → Marks i m → head i ≡ true → ok i ≡ true → not (m i) ≡ leads f ok head n i
@@ -110,4 +110,4 @@ module _ {f : ℕ → ℕ} {ok : ℕ → Bool} {n : ℕ} (K : Closed f ok n) (he
       ∙ sym (pick-no (leads f ok head n) (λ c. orbit f c n c) i m e))
 
   pub scan-listing : scan f ok head n (λ d. false) 0 n ≡ listing f ok head n
-  scan-listing = scan-pick 0 n (λ d. false) (marks-start (λ d. false) (λ d k. refl))
+  scan-listing = scan-pick 0 n (λ d. false) (marks-start (λ d. false) (λ d h k. refl))

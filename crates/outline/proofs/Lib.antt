@@ -1,0 +1,11 @@
+pub mod Codes
+pub mod Entered
+pub mod Follow
+pub mod Border
+pub mod Paper
+pub mod Parity
+pub mod Beside
+pub mod Whole
+pub mod Bytes
+pub mod Places
+pub mod Heads

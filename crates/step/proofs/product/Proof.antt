@@ -1,0 +1,19 @@
+use mathlib.Core.Path.{refl}
+use Prim.Native.Nat.{_*_, _≤_}
+use native.Mathlib.Nat.{mul-le-mul}
+use native.Mathlib.Omega.{arith}
+use Rattle.step.proofs.product.Statement.{statement}
+use Rattle.step.proofs.product.Tie as tie
+use Rattle.step.proofs.product.Reads as reads
+use Rattle.step.proofs.product.Lts as lts
+
+-- src/lib.rt:55:5
+mul-result : tie.Need-mul-result
+mul-result c = omega (arith, mul-le-mul (c .pre .0) (c .pre .1))
+
+-- src/lib.rt:51:1
+returns : tie.Need-returns
+returns c = (refl, mul-le-mul (c .pre .0) (c .pre .1))
+
+pub product-spec : {M : Type 1} → statement M
+product-spec = tie.close (tie.spec mul-result returns)

@@ -1,12 +1,14 @@
 -- States and codes of horizontal crossings, and the bytes they mark. Assumes nothing.
--- Main laws: `double`, `lead-code` a horizontal crossing's code is that of a place exactly if it starts there; `lead-at` the state of a lead; `mark-flat`, `mark-tall` what a crossing marks.
+-- Main laws: `double`, `lead-code` a horizontal crossing's code is that of a place exactly if it starts there; `lead-at` the state of a lead; `mark-flat`, `mark-tall` what a crossing marks; `area-most` a picture has at most
+--   4,194,304 samples.
 use mathlib.Core.Path.{_≡_, refl, sym, ap, _∙_}
 use mathlib.Core.Bool.{Bool, true, false, cond}
 use mathlib.Core.List.{List}
-use Prim.Native.Nat.{ℕ, _+_, _*_, _/_, _%_}
+use Prim.Native.Nat.{ℕ, _+_, _*_, _/_, _%_, _≤_}
+use native.Mathlib.Nat.{mul-le-mul}
 use native.Mathlib.Omega.{arith}
 use lib.Dec.{eqb}
-use lib.ListN.{set}
+use lib.ListN.{length, set}
 use borrow.Author.Tests.{eqb-true, eqb-false, eq-eqb, ne-eqb}
 use Rattle.tally.proofs.Test.{by-test, no}
 use Rattle.edgel.specs.declared.Heading.{Heading}
@@ -14,7 +16,9 @@ use Rattle.edgel.specs.declared.Heading.the-variants.{South, East, North, West}
 use Rattle.edgel.specs.Edgel.{horizontal, first, headingOf, headingAt}
 use Rattle.step.specs.declared.State.{State}
 use Rattle.step.specs.Step.{codeOn, codeAt, stateAt}
-use Rattle.trace.specs.Trace.{mark}
+use Rattle.matte.specs.Picture.{Picture}
+use Rattle.outline.proofs.Bytes.{mark}
+use Rattle.trace.specs.Trace.{Ground}
 
 pub double : (i e : ℕ) → eqb (2 * i) (2 * e) ≡ eqb i e
 double i e =
@@ -70,3 +74,6 @@ mark-flat v bytes s h =
 pub mark-tall : (v : ℕ) (bytes : List ℕ) (s : State) → horizontal (codeAt s) ≡ false → mark v bytes (codeAt s) ≡ bytes
 unfolding mark
 mark-tall v bytes s h = ap (λ (b : Bool). cond b (set bytes (first (codeAt s)) v) bytes) h
+
+pub area-most : {P : Picture} → Ground P → length (P .px) ≤ 4194304
+area-most {P} G = omega (arith, G .whole, mul-le-mul (G .sides .w-most) (G .sides .h-most))

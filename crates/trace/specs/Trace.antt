@@ -1,15 +1,14 @@
--- How the list call works: marks in the work bytes, words pasted into the places. Assumes nothing.
--- Definitions: `Ground` what following a line needs of a picture; `mark`, `markAll` the work bytes after crossings were visited; `pasted` a list with another one in it; `fresh` a place whose edgel is crossed and not
+-- How the list call works: which places it looks for, how words go in, what it does to the work bytes. Assumes nothing.
+-- Definitions: `Ground` what following a line needs of a picture; `pasted` a list with another one in it; `fresh` a place whose edgel is crossed and not
 --   visited; `crossings` how many edgels are crossed at a level; `Worn` what a level leaves of the work bytes.
 use mathlib.Core.Path.{_≡_}
-use mathlib.Core.Bool.{Bool, true, not, _&&_, cond}
-use mathlib.Core.List.{List, [], _∷_, _++_}
+use mathlib.Core.Bool.{Bool, true, not, _&&_}
+use mathlib.Core.List.{List, _++_}
 use Prim.Native.Nat.{ℕ, _+_, _*_, _≤_, _<_}
 use lib.Dec.{eqb, ltb}
-use lib.ListN.{length, take, drop, getD, set}
+use lib.ListN.{length, take, drop, getD}
 use Rattle.tally.specs.Tally.{differ, one, sum}
 use Rattle.matte.specs.Picture.{Picture, size, borderFits}
-use Rattle.edgel.specs.Edgel.{horizontal, first}
 use Rattle.refuse.specs.Shape.{Sides}
 use Rattle.outline.specs.Line.{cutAt}
 
@@ -18,14 +17,6 @@ pub record Ground (P : Picture) : Type 0 where
   pub sides : Sides (P .w) (P .h)
   pub whole : length (P .px) ≡ size P
   pub border : borderFits P ≡ true
-
--- a horizontal crossing marks the byte of its place with v, a vertical one none
-unfoldable pub mark : ℕ → List ℕ → ℕ → List ℕ
-mark v bytes c = cond (horizontal c) (set bytes (first c) v) bytes
-
-unfoldable pub markAll : ℕ → List ℕ → List ℕ → List ℕ
-markAll v bytes [] = bytes
-markAll v bytes (c ∷ l) = markAll v (mark v bytes c) l
 
 -- the list d, with the list f in it from the place n on
 abbrev pub pasted : List ℕ → ℕ → List ℕ → List ℕ

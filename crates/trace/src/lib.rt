@@ -1,5 +1,6 @@
 // Listing: all lines of all levels, in order, as words.
 mod line;
+mod scan;
 
 ghost use mathlib.Core.Path.{_≡_};
 ghost use mathlib.Core.List.{List, _++_};

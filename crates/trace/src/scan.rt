@@ -1,0 +1,48 @@
+// The lines of one level in the order of their leads, and of all levels.
+use crate::line::trace_line;
+ghost use mathlib.Core.Path.{_≡_};
+ghost use mathlib.Core.Bool.{Bool, true, false, not, _&&_};
+ghost use mathlib.Core.List.{List, _++_};
+ghost use Prim.Native.Nat.{ℕ, _+_, _-_, _*_, _≤_, _<_};
+ghost use lib.Dec.{eqb, ltb};
+ghost use lib.ListN.{length, getD, take, drop};
+ghost use Rattle.tally.specs.Tally.{differ, firstFrom, tally};
+ghost use Rattle.matte.specs.Layout.{eight};
+ghost use Rattle.matte.specs.Picture.{picture, levelsFit};
+ghost use Rattle.edgel.specs.Word.{flagged};
+ghost use Rattle.outline.specs.Line.{lines};
+ghost use Rattle.outline.specs.List.{levelWords, listed};
+ghost use Rattle.trace.specs.Trace.{Ground, Worn, fresh, pasted};
+
+// The words and lines written so far.
+pub struct Written {
+    pub words: usize,
+    pub lines: usize,
+}
+
+// The horizontal edgel between samples a and b is crossed at k, and its mark m is not the level's.
+fn is_fresh(a: u8, b: u8, m: u8, k: u8) -> bool
+    requires { ⌜ k < 255 ⌝ }
+    ensures { λ r. ⌜ r ≡ (differ (ltb k a) (ltb k b) && not (eqb m (k + 1))) ⌝ }
+{
+    if m == k + 1 {
+        return false;
+    }
+    (k < a) != (k < b)
+}
+
+// The first place from `from` on whose horizontal edgel is crossed at k and not visited yet, or the last place.
+fn search(px: &[u8], work: &[u8], k: u8, from: usize) -> usize
+    requires { ⌜ (from < length (now px)) × (length (now px) ≤ length (now work)) × (k < 255) ⌝ }
+    ensures { λ r. ⌜ r ≡ firstFrom (fresh (now (px .entry)) (now (work .entry)) k) from (length (now (px .entry)) - 1 - from) ⌝ }
+{
+    let end = px.len() - 1;
+    let mut p = from;
+    while p < end {
+        if is_fresh(px[p], px[p + 1], work[p], k) {
+            return p;
+        }
+        p += 1;
+    }
+    p
+}

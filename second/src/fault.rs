@@ -1,0 +1,115 @@
+//! The wrong variants of the program, one switch each.
+
+/// What is wrong with a variant. `None` is the true program.
+#[derive(Clone, Copy, Debug, PartialEq, Eq)]
+pub enum Fault {
+    None,
+    /// The saddle rule of lines heading S is used for every heading.
+    SaddleSouthOnly,
+    /// Equality at the saddle turns right on one entry and left on the other.
+    EqualityRightOnce,
+    /// Equality at the saddle always turns right.
+    EqualityRight,
+    /// A lead must head S.
+    LeadsSouthOnly,
+    /// Two crossings of a row are told apart by their columns only.
+    ColumnsOnly,
+    /// Only lines of the same level can be around a line.
+    OwnLevelOnly,
+    /// List and tree look for refusal 5 before 4.
+    RefusalsSwapped,
+    /// Room is looked at before words: 9, 15 and 6 before 8.
+    RoomBeforeWords,
+    /// Membership looks for the line before it looks at the words.
+    LineBeforeWords,
+    /// Piece looks for a crossed edgel with a clamped cell before it refuses the cell.
+    CellLast,
+    /// Refusal 2 is given for too few samples only.
+    MoreSamplesTaken,
+    /// The place of refusal 8 is the last bad word.
+    LastBadWord,
+    /// Refusal 6 comes after the words that fit were written.
+    RefusedWrites,
+    /// A division by a negative number may return minus zero.
+    MinusZero,
+    /// The corner is told without asking whether the centre is inside.
+    CornerOutside,
+    /// Coordinates of a crossing are rounded once, not twice.
+    RoundedOnce,
+    /// Fractions are reduced.
+    Reduced,
+    /// The larger of the middle two is the median.
+    UpperMedian,
+    /// The check leaves out the number of the block.
+    CheckWithoutBlock,
+    /// Bytes after the last word need not be zero.
+    LooseZeros,
+    /// Blocks after the last due one are let through.
+    SurplusBlocks,
+    /// The limit on the number of words is not looked at.
+    NoLimit,
+    /// The rest of a file's room is cleared.
+    RestCleared,
+    /// A line has the kind of a parent of equal level.
+    KindKept,
+    /// The kind of a root is read from the heading of its lead.
+    RootByHeading,
+    /// The work bytes are not cleared.
+    WorkLeft,
+    /// All work bytes are cleared, not just the first w·h.
+    WorkAllCleared,
+    /// Work bytes are not cleared for an empty level list.
+    WorkLeftWithoutLevels,
+    /// Tree places up to the half are cleared.
+    SurplusTreeCleared,
+    /// Equal words do not cancel in painting.
+    EqualWordsOnce,
+    /// A word in the sample's own column counts as left of it.
+    ColumnIncluded,
+    /// Words before the first flag are line 0.
+    LineWithoutFlag,
+    /// The form takes numbers with leading zeros.
+    LeadingZeros,
+    /// The form takes one newline after the samples.
+    TrailingNewline,
+}
+
+impl Fault {
+    /// Every wrong variant.
+    pub const ALL: [Fault; 34] = [
+        Fault::SaddleSouthOnly,
+        Fault::EqualityRightOnce,
+        Fault::EqualityRight,
+        Fault::LeadsSouthOnly,
+        Fault::ColumnsOnly,
+        Fault::OwnLevelOnly,
+        Fault::RefusalsSwapped,
+        Fault::RoomBeforeWords,
+        Fault::LineBeforeWords,
+        Fault::CellLast,
+        Fault::MoreSamplesTaken,
+        Fault::LastBadWord,
+        Fault::RefusedWrites,
+        Fault::MinusZero,
+        Fault::CornerOutside,
+        Fault::RoundedOnce,
+        Fault::Reduced,
+        Fault::UpperMedian,
+        Fault::CheckWithoutBlock,
+        Fault::LooseZeros,
+        Fault::SurplusBlocks,
+        Fault::NoLimit,
+        Fault::RestCleared,
+        Fault::KindKept,
+        Fault::RootByHeading,
+        Fault::WorkLeft,
+        Fault::WorkAllCleared,
+        Fault::WorkLeftWithoutLevels,
+        Fault::SurplusTreeCleared,
+        Fault::EqualWordsOnce,
+        Fault::ColumnIncluded,
+        Fault::LineWithoutFlag,
+        Fault::LeadingZeros,
+        Fault::TrailingNewline,
+    ];
+}

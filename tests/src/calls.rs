@@ -1,0 +1,108 @@
+//! The calls of the product as the suite sees them.
+
+use second::{Answer, Crossing, Piece, Read, Second};
+
+/// The name of each call.
+#[derive(Clone, Copy, Debug, Default, PartialEq, Eq, PartialOrd, Ord)]
+pub enum Call {
+    #[default]
+    List,
+    Tree,
+    Frame,
+    Crossing,
+    Piece,
+    LinePart,
+    Member,
+    Paint,
+    Write,
+    Read,
+    Listing,
+}
+
+/// All calls.
+pub const ALL: [Call; 11] = [
+    Call::List,
+    Call::Tree,
+    Call::Frame,
+    Call::Crossing,
+    Call::Piece,
+    Call::LinePart,
+    Call::Member,
+    Call::Paint,
+    Call::Write,
+    Call::Read,
+    Call::Listing,
+];
+
+/// A program under test.
+#[allow(clippy::too_many_arguments)]
+pub trait Calls {
+    /// Does the program have this call yet?
+    fn has(&self, call: Call) -> bool;
+    fn list(&self, w: usize, h: usize, px: &[u8], levels: &[u8], work: &mut [u8], words: &mut [u32]) -> Answer;
+    fn tree(
+        &self, w: usize, h: usize, px: &[u8], levels: &[u8], work: &mut [u8], words: &mut [u32], tree: &mut [u32],
+    ) -> Answer;
+    fn frame(&self, w: usize, h: usize, px: &[u8], room: &mut [u8]) -> Answer;
+    fn crossing(&self, w: usize, h: usize, px: &[u8], level: u8, code: u32) -> Crossing;
+    fn piece(&self, w: usize, h: usize, px: &[u8], level: u8, x: usize, y: usize) -> (Answer, Piece);
+    /// The part must lie in the given list itself.
+    fn line_part<'a>(&self, words: &'a [u32], n: usize) -> &'a [u32];
+    fn member(&self, w: usize, h: usize, words: &[u32], n: usize, x: usize, y: usize) -> (Answer, bool);
+    fn paint(&self, w: usize, h: usize, v: u8, levels: &[u8], words: &[u32], room: &mut [u8]) -> Answer;
+    fn write(&self, w: usize, h: usize, v: u8, levels: &[u8], words: &[u32], file: &mut [u8]) -> Answer;
+    fn read(&self, file: &[u8], words: &mut [u32]) -> Read;
+    fn listing(&self, input: &[u8]) -> Vec<u8>;
+}
+
+impl Calls for Second {
+    fn has(&self, _call: Call) -> bool {
+        true
+    }
+
+    fn list(&self, w: usize, h: usize, px: &[u8], levels: &[u8], work: &mut [u8], words: &mut [u32]) -> Answer {
+        Second::list(self, w, h, px, levels, work, words)
+    }
+
+    fn tree(
+        &self, w: usize, h: usize, px: &[u8], levels: &[u8], work: &mut [u8], words: &mut [u32], tree: &mut [u32],
+    ) -> Answer {
+        Second::tree(self, w, h, px, levels, work, words, tree)
+    }
+
+    fn frame(&self, w: usize, h: usize, px: &[u8], room: &mut [u8]) -> Answer {
+        Second::frame(self, w, h, px, room)
+    }
+
+    fn crossing(&self, w: usize, h: usize, px: &[u8], level: u8, code: u32) -> Crossing {
+        Second::crossing(self, w, h, px, level, code)
+    }
+
+    fn piece(&self, w: usize, h: usize, px: &[u8], level: u8, x: usize, y: usize) -> (Answer, Piece) {
+        Second::piece(self, w, h, px, level, x, y)
+    }
+
+    fn line_part<'a>(&self, words: &'a [u32], n: usize) -> &'a [u32] {
+        Second::line_part(self, words, n)
+    }
+
+    fn member(&self, w: usize, h: usize, words: &[u32], n: usize, x: usize, y: usize) -> (Answer, bool) {
+        Second::member(self, w, h, words, n, x, y)
+    }
+
+    fn paint(&self, w: usize, h: usize, v: u8, levels: &[u8], words: &[u32], room: &mut [u8]) -> Answer {
+        Second::paint(self, w, h, v, levels, words, room)
+    }
+
+    fn write(&self, w: usize, h: usize, v: u8, levels: &[u8], words: &[u32], file: &mut [u8]) -> Answer {
+        Second::write(self, w, h, v, levels, words, file)
+    }
+
+    fn read(&self, file: &[u8], words: &mut [u32]) -> Read {
+        Second::read(self, file, words)
+    }
+
+    fn listing(&self, input: &[u8]) -> Vec<u8> {
+        Second::listing(self, input)
+    }
+}

@@ -1,0 +1,268 @@
+//! Group: every refusal of every call, alone and with others, so that the order is seen.
+
+use crate::blocks::{self, Parts, LIMIT};
+use crate::calls::Call;
+use crate::case::Case;
+use crate::files::write_case;
+use crate::lent::Room;
+use crate::pictures::{self, Picture};
+use crate::rng::Rng;
+use crate::run::Run;
+use crate::words::{bad_code, good_words};
+
+/// Makes one refusal true of a case, whatever else is true of it.
+type Spoil = fn(&mut Case, &mut Rng);
+
+/// A call, a case that is done, and its refusals in their order.
+struct Table {
+    base: fn(&mut Rng) -> Case,
+    order: &'static [(u32, Spoil)],
+}
+
+const TABLES: [Table; 9] = [
+    Table { base: list_base, order: &[(1, sides), (2, samples), (3, levels), (4, border), (5, work), (6, places)] },
+    Table {
+        base: tree_base,
+        order: &[(1, sides), (2, samples), (3, levels), (4, border), (5, work), (6, places), (7, entries)],
+    },
+    Table { base: frame_base, order: &[(1, sides), (2, samples), (9, sample_room)] },
+    Table { base: crossing_base, order: &[(1, sides), (2, samples), (3, level), (8, code), (10, flat)] },
+    Table { base: piece_base, order: &[(1, sides), (2, samples), (3, level), (11, cell), (10, flat)] },
+    Table { base: member_base, order: &[(1, sides), (8, word_code), (11, line_or_sample)] },
+    Table { base: paint_base, order: &[(1, sides), (3, levels), (8, word), (9, sample_room)] },
+    Table { base: write_base, order: &[(1, sides), (3, levels), (16, too_many), (8, word), (15, file_room)] },
+    Table { base: read_base, order: &[(12, length), (13, check), (14, layout), (8, stored_word), (6, places)] },
+];
+
+pub fn group(run: &mut Run) {
+    let mut round = 0;
+    run.turns(300, |run, rng| {
+        for table in &TABLES {
+            for set in 0..1u32 << table.order.len() {
+                let heavy = table.order.iter().enumerate().any(|(place, spoil)| spoil.0 == 16 && set >> place & 1 == 1);
+                if !heavy || round == 0 {
+                    all_of(run, rng, table, set);
+                }
+            }
+        }
+        round += 1;
+    });
+}
+
+/// The case with all refusals of a set. The first in the order must be given.
+fn all_of(run: &mut Run, rng: &mut Rng, table: &Table, set: u32) {
+    let mut case = (table.base)(rng);
+    let chosen = || table.order.iter().enumerate().filter(|(place, _)| set >> place & 1 == 1).map(|(_, spoil)| spoil);
+    chosen().collect::<Vec<_>>().into_iter().rev().for_each(|spoil| spoil.1(&mut case, rng));
+    let expected = chosen().next().map_or(0, |spoil| spoil.0);
+    if let Some(outcome) = run.check(&case) {
+        let said = outcome.number();
+        let wrong = said != expected;
+        let truths: Vec<u32> = chosen().map(|spoil| spoil.0).collect();
+        run.direct(&case, wrong.then(|| format!("{said} is given, of {truths:?} in this order")));
+    }
+}
+
+/// A picture with an inner sample that differs from the border, and a level between.
+fn picture(rng: &mut Rng) -> (Picture, Vec<u8>) {
+    let (w, h) = (rng.between(3, 7), rng.between(3, 7));
+    let border = rng.byte();
+    let picture = Picture::new(w, h, border, |_, _| border.wrapping_add(rng.between(1, 255) as u8));
+    let low = border.min(picture.px[w + 1]);
+    let mut levels: Vec<u8> = (0..255).filter(|&k| k == low || rng.once_in(60)).collect();
+    levels.dedup();
+    (picture, levels)
+}
+
+fn list_base(rng: &mut Rng) -> Case {
+    let (picture, levels) = picture(rng);
+    picture.case(Call::List, &levels, rng, Room::enough)
+}
+
+fn tree_base(rng: &mut Rng) -> Case {
+    let (picture, levels) = picture(rng);
+    picture.case(Call::Tree, &levels, rng, Room::enough)
+}
+
+fn frame_base(rng: &mut Rng) -> Case {
+    let Picture { w, h, px } = picture(rng).0;
+    Case { call: Call::Frame, w, h, px, room: Room::enough(rng, w * h), ..Case::default() }
+}
+
+/// The edgel west of the first inner sample is crossed.
+fn crossing_base(rng: &mut Rng) -> Case {
+    let Picture { w, h, px } = picture(rng).0;
+    let level = px[0].min(px[w + 1]);
+    Case { call: Call::Crossing, w, h, px, level, code: 2 * w as u32, ..Case::default() }
+}
+
+fn piece_base(rng: &mut Rng) -> Case {
+    Case { call: Call::Piece, ..crossing_base(rng) }
+}
+
+fn parts(rng: &mut Rng) -> Parts {
+    let (w, h) = pictures::sides(rng, 9);
+    let levels: Vec<u8> = (0..255).filter(|&k| k == 77 || rng.once_in(40)).collect();
+    let count = rng.between(1, 200);
+    let mut words = good_words(rng, w, h, &levels, count);
+    words[0] |= 1 << 31;
+    Parts { w, h, border: rng.byte(), levels, words }
+}
+
+fn member_base(rng: &mut Rng) -> Case {
+    let Parts { w, h, words, .. } = parts(rng);
+    let (n, x, y) = (0, rng.below(w), rng.below(h));
+    Case { call: Call::Member, w, h, words, n, x, y, ..Case::default() }
+}
+
+fn paint_base(rng: &mut Rng) -> Case {
+    let parts = parts(rng);
+    let room = Room::enough(rng, parts.w * parts.h);
+    Case { call: Call::Paint, ..write_case(&parts, room) }
+}
+
+fn write_base(rng: &mut Rng) -> Case {
+    let parts = parts(rng);
+    let room = Room::enough(rng, blocks::build(&parts).len());
+    write_case(&parts, room)
+}
+
+fn read_base(rng: &mut Rng) -> Case {
+    let parts = parts(rng);
+    let places = Room::enough(rng, parts.words.len());
+    Case { call: Call::Read, input: blocks::build(&parts), places, w: parts.w, h: parts.h, ..Case::default() }
+}
+
+fn sides(case: &mut Case, rng: &mut Rng) {
+    let side = *rng.one_of(&[0, 1, 2049, 4096, 65_536, 1 << 32, usize::MAX]);
+    match rng.below(3) {
+        0 => case.w = side,
+        1 => case.h = side,
+        _ => (case.w, case.h) = (side, side),
+    }
+}
+
+fn samples(case: &mut Case, rng: &mut Rng) {
+    match rng.below(4) {
+        0 => case.px.push(case.px[0]),
+        1 => case.px.clear(),
+        2 => case.px.extend(case.px.clone()),
+        _ => drop(case.px.pop()),
+    }
+}
+
+fn levels(case: &mut Case, rng: &mut Rng) {
+    match rng.below(4) {
+        0 => case.levels.push(255),
+        1 => case.levels.push(case.levels[0]),
+        2 => case.levels.insert(0, 254),
+        _ => case.levels = vec![7; 256],
+    }
+}
+
+fn level(case: &mut Case, _rng: &mut Rng) {
+    case.level = 255;
+}
+
+fn border(case: &mut Case, rng: &mut Rng) {
+    let (w, h) = (case.w, case.h);
+    let (x, y) = (rng.below(w), rng.below(h));
+    let place = *rng.one_of(&[0, w - 1, w * h - 1, w * (h - 1), x, y * w, y * w + w - 1, w * (h - 1) + x]);
+    case.px[place] ^= rng.between(1, 255) as u8;
+}
+
+fn shorter(room: &mut Room, needed: usize, rng: &mut Rng) {
+    room.size = if rng.once_in(2) { needed - 1 } else { rng.below(needed) };
+}
+
+fn work(case: &mut Case, rng: &mut Rng) {
+    shorter(&mut case.work, case.w * case.h, rng);
+}
+
+fn sample_room(case: &mut Case, rng: &mut Rng) {
+    shorter(&mut case.room, case.w * case.h, rng);
+}
+
+/// So few places that they are too few even when other refusals change the need.
+fn places(case: &mut Case, rng: &mut Rng) {
+    case.places.size = rng.below(1 + (case.call != Call::Read) as usize);
+}
+
+fn entries(case: &mut Case, _rng: &mut Rng) {
+    case.entries.size = 0;
+}
+
+fn file_room(case: &mut Case, rng: &mut Rng) {
+    shorter(&mut case.room, 512 * (1 + case.words.len().div_ceil(127)), rng);
+}
+
+fn code(case: &mut Case, rng: &mut Rng) {
+    let high_bits = (rng.between(1, 511) as u32) << 23;
+    case.code = if rng.once_in(2) { bad_code(rng, case.w, case.h) } else { case.code + high_bits };
+}
+
+fn flat(case: &mut Case, _rng: &mut Rng) {
+    let value = case.px[0];
+    case.px.fill(value);
+}
+
+fn cell(case: &mut Case, rng: &mut Rng) {
+    match rng.below(3) {
+        0 => case.x = *rng.one_of(&[case.w - 1, case.w, usize::MAX]),
+        1 => case.y = *rng.one_of(&[case.h - 1, case.h, usize::MAX]),
+        _ => (case.x, case.y) = (usize::MAX, usize::MAX),
+    }
+}
+
+fn word_code(case: &mut Case, rng: &mut Rng) {
+    let place = rng.below(case.words.len());
+    case.words[place] = bad_code(rng, case.w, case.h) | case.words[place] & 0xFF80_0000;
+}
+
+/// A bad code, or a level that is not listed.
+fn word(case: &mut Case, rng: &mut Rng) {
+    let place = rng.below(case.words.len());
+    match rng.once_in(2) {
+        true => word_code(case, rng),
+        false => case.words[place] |= 255 << 23,
+    }
+}
+
+fn line_or_sample(case: &mut Case, rng: &mut Rng) {
+    match rng.below(4) {
+        0 => case.n = usize::MAX,
+        1 => case.n = case.words.len(),
+        2 => case.x = *rng.one_of(&[case.w, usize::MAX]),
+        _ => case.y = *rng.one_of(&[case.h, usize::MAX]),
+    }
+}
+
+fn too_many(case: &mut Case, _rng: &mut Rng) {
+    case.words.resize(LIMIT + 1, case.words[0]);
+}
+
+fn stored_word(case: &mut Case, rng: &mut Rng) {
+    let words = (case.input.len() / 512 - 1) * 127;
+    let stored = u32::from_le_bytes([case.input[12], case.input[13], case.input[14], case.input[15]]) as usize;
+    let at = blocks::word_at(rng.below(stored.min(words)));
+    let bad = bad_code(rng, case.w, case.h) | 77 << 23;
+    case.input[at..at + 4].copy_from_slice(&bad.to_le_bytes());
+    blocks::stamp(&mut case.input);
+}
+
+fn layout(case: &mut Case, rng: &mut Rng) {
+    blocks::break_layout(&mut case.input, rng);
+}
+
+fn check(case: &mut Case, rng: &mut Rng) {
+    let at = rng.below(case.input.len());
+    case.input[at] ^= 1 << rng.below(8);
+}
+
+fn length(case: &mut Case, rng: &mut Rng) {
+    match rng.below(3) {
+        0 => case.input.clear(),
+        1 => case.input.truncate(case.input.len() - rng.between(1, 511)),
+        _ => case.input.push(0),
+    }
+}

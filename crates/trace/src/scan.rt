@@ -20,15 +20,11 @@ pub struct Written {
     pub lines: usize,
 }
 
-// The horizontal edgel between samples a and b is crossed at k, and its mark m is not the level's.
-fn is_fresh(a: u8, b: u8, m: u8, k: u8) -> bool
-    requires { ⌜ k < 255 ⌝ }
-    ensures { λ r. ⌜ r ≡ (differ (ltb k a) (ltb k b) && not (eqb m (k + 1))) ⌝ }
+// The horizontal edgel between samples a and b is crossed at k, and its byte m is not the level's mark.
+fn is_fresh(a: u8, b: u8, m: u8, k: u8, mark: u8) -> bool
+    ensures { λ r. ⌜ r ≡ (differ (ltb k a) (ltb k b) && not (eqb m mark)) ⌝ }
 {
-    if m == k + 1 {
-        return false;
-    }
-    (k < a) != (k < b)
+    ((k < a) != (k < b)) & (m != mark)
 }
 
 // The first place from `from` on whose horizontal edgel is crossed at k and not visited yet, or the last place.
@@ -36,10 +32,11 @@ fn search(px: &[u8], work: &[u8], k: u8, from: usize) -> usize
     requires { ⌜ (from < length (now px)) × (length (now px) ≤ length (now work)) × (k < 255) ⌝ }
     ensures { λ r. ⌜ r ≡ firstFrom (fresh (now (px .entry)) (now (work .entry)) k) from (length (now (px .entry)) - 1 - from) ⌝ }
 {
+    let mark = k + 1;
     let end = px.len() - 1;
     let mut p = from;
     while p < end {
-        if is_fresh(px[p], px[p + 1], work[p], k) {
+        if is_fresh(px[p], px[p + 1], work[p], k, mark) {
             return p;
         }
         p += 1;

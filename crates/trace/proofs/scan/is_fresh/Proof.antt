@@ -1,20 +1,19 @@
-use borrow.Author.Needs.{needs}
+-- `trace::scan::is_fresh` meets its contract. Assumes nothing.
+use mathlib.Core.Path.{_≡_, refl, ap}
+use mathlib.Core.Bool.{Bool, true, false, not, Bool·beq, _&&_}
+use lib.Dec.{eqb, ltb}
+use Rattle.tally.specs.Tally.{differ}
 use Rattle.trace.proofs.scan.is_fresh.Statement.{statement}
 use Rattle.trace.proofs.scan.is_fresh.Tie as tie
-use Rattle.trace.proofs.scan.is_fresh.Reads as reads
-use Rattle.trace.proofs.scan.is_fresh.Lts as lts
 
--- src/scan.rt:28:13
-add-if1 : tie.Need-add-if1
-add-if1 c = search needs
-
--- src/scan.rt:29:9
 returns : tie.Need-returns
-returns c = ?
-
--- src/scan.rt:24:1
-returns-2 : tie.Need-returns-2
-returns-2 c = ?
+returns c = ap (λ (z : Bool). z && not (eqb (c .args .m) (c .args .mark))) (unlike (ltb (c .args .k) (c .args .a)) (ltb (c .args .k) (c .args .b)))
+  where
+    unlike : (x y : Bool) → not (Bool·beq x y) ≡ differ x y
+    unlike true true = refl
+    unlike true false = refl
+    unlike false true = refl
+    unlike false false = refl
 
 pub is-fresh-spec : {M : Type 1} → statement M
-is-fresh-spec = tie.close (tie.spec add-if1 returns returns-2)
+is-fresh-spec = tie.close (tie.spec returns)

@@ -1,62 +1,81 @@
+-- `trace::scan::search` meets its contract: no place passed was fresh. Assumes nothing.
+use mathlib.Core.Path.{_≡_, refl, sym, ap, _∙_}
+use mathlib.Core.Bool.{Bool, true, false}
+use Prim.Native.Nat.{ℕ, _+_, _-_, _≤_, _<_}
+use native.Mathlib.Omega.{arith}
+use lib.Dec.{eqb}
+use lib.ListN.{length}
+use borrow.Author.Tests.{eqb-true, eqb-false}
+use borrow.Author.Needs.{needs}
+use Rattle.tally.proofs.Test.{by-test}
+use Rattle.tally.proofs.First.{from-is}
+use Rattle.trace.specs.Trace.{fresh}
 use Rattle.trace.proofs.scan.search.Statement.{statement}
 use Rattle.trace.proofs.scan.search.Tie as tie
-use Rattle.trace.proofs.scan.search.Reads as reads
-use Rattle.trace.proofs.scan.search.Lts as lts
-use Rattle.trace.proofs.scan.is_fresh.Reads as is-fresh-reads
 
 abbrev Inv-loop : tie.InvT-loop
-Inv-loop px work k from end p₀ p = ?
+Inv-loop px work k from mark end p₀ p = (from ≤ p) × (p ≤ length px - 1) × ((j : ℕ) → from ≤ j → j < p → fresh px work k j ≡ false)
 
 abbrev μ-loop : tie.MeasureT-loop
-μ-loop px work k from end p₀ p = ?
+μ-loop px work k from mark end p₀ p = length px - 1 - p
 
--- src/scan.rt:39:15
+add-mark : tie.Need-add-mark Inv-loop μ-loop
+add-mark c = search needs
+
 sub-end : tie.Need-sub-end Inv-loop μ-loop
-sub-end c = ?
+sub-end c = omega arith
 
--- src/scan.rt:41:5
 loop-holds : tie.Need-loop-holds Inv-loop μ-loop
-loop-holds c = ?
+loop-holds c = (omega arith, omega arith, λ j a b. absurd (omega arith))
 
--- src/scan.rt:42:21
 shared-slice-read-is-fresh : tie.Need-shared-slice-read-is-fresh Inv-loop μ-loop
-shared-slice-read-is-fresh c = ?
+shared-slice-read-is-fresh c = omega arith
 
--- src/scan.rt:42:31
 add-is-fresh : tie.Need-add-is-fresh Inv-loop μ-loop
-add-is-fresh c = ?
+add-is-fresh c = omega arith
 
--- src/scan.rt:42:28
 shared-slice-read-is-fresh-2 : tie.Need-shared-slice-read-is-fresh-2 Inv-loop μ-loop
-shared-slice-read-is-fresh-2 c = ?
+shared-slice-read-is-fresh-2 c = omega arith
 
--- src/scan.rt:42:39
 shared-slice-read-is-fresh-3 : tie.Need-shared-slice-read-is-fresh-3 Inv-loop μ-loop
-shared-slice-read-is-fresh-3 c = ?
+shared-slice-read-is-fresh-3 c = omega arith
 
--- src/scan.rt:42:12
 is-fresh-requires : tie.Need-is-fresh-requires Inv-loop μ-loop
-is-fresh-requires c κs = ?
+is-fresh-requires c κs = tt
 
--- src/scan.rt:43:13
 returns : tie.Need-returns Inv-loop μ-loop
-returns c = ?
+returns c =
+    let z = c .before .before .before .before .before .before .before .before .before in
+    let a = z .args in
+    let l = c .before .before .before .before .before .before .loop in
+    sym (from-is (fresh (a .px .now) (a .work .now) (a .k)) (a .from) (length (a .px .now) - 1 - a .from) (l .p) (l .inv .0) (omega (arith, l .inv .1, l .inv .0)) (l .inv .2) (λ t. sym (c .before .is-fresh .ensures) ∙ c .if1 .taken))
 
--- src/scan.rt:45:9
 add-p : tie.Need-add-p Inv-loop μ-loop
-add-p c = ?
+add-p c = omega arith
 
--- src/scan.rt:41:5
 loop-less : tie.Need-loop-less Inv-loop μ-loop
-loop-less c = ?
+loop-less c = omega arith
 
--- src/scan.rt:41:5
 loop-again : tie.Need-loop-again Inv-loop μ-loop
-loop-again c = ?
+loop-again c =
+    let z = c .before .before .before .before .before .before .before .before .before in
+    let a = z .args in
+    let l = c .before .before .before .before .before .before .loop in
+    (
+      omega (arith, l .inv .0),
+      omega arith,
+      λ j s t.
+          by-test (eqb j (l .p))
+          (λ e. ap (fresh (a .px .now) (a .work .now) (a .k)) (eqb-true j (l .p) e) ∙ sym (c .before .is-fresh .ensures) ∙ c .if1 .left)
+          (λ e. l .inv .2 j s (omega (arith, eqb-false j (l .p) e))),
+    )
 
--- src/scan.rt:35:1
 returns-2 : tie.Need-returns-2 Inv-loop μ-loop
-returns-2 c = ?
+returns-2 c =
+    let z = c .before .before .before .before in
+    let a = z .args in
+    let l = c .before .loop in
+    sym (from-is (fresh (a .px .now) (a .work .now) (a .k)) (a .from) (length (a .px .now) - 1 - a .from) (l .p) (l .inv .0) (omega (arith, l .inv .1, l .inv .0)) (l .inv .2) (λ t. absurd (omega (arith, c .loop-test .left, l .inv .0))))
 
 pub search-spec : {M : Type 1} → statement M
 search-spec =
@@ -64,6 +83,7 @@ search-spec =
     (tie.spec
     Inv-loop
     μ-loop
+    add-mark
     sub-end
     loop-holds
     shared-slice-read-is-fresh

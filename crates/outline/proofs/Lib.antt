@@ -9,3 +9,10 @@ pub mod Whole
 pub mod Bytes
 pub mod Places
 pub mod Heads
+pub mod Lines
+pub mod Above
+pub mod Levels
+pub mod Words
+pub mod Growing
+pub mod Listed
+pub mod Stepped

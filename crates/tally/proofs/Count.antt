@@ -1,5 +1,5 @@
 -- Counting in lists: how often a number stands there, how many pass a test. Assumes nothing.
--- Main laws: `count-self` a first element counts; `count-append`, `tally-append`; `tally-same`, `tally-le`, `tally-has`, `tally-none`; `length-counts`, `tally-counts` a length and a tally as sums of counts;
+-- Main laws: `count-self`, `count-later`, `count-at` an element of a list counts; `count-append`, `tally-append`; `tally-same`, `tally-le`, `tally-has`, `tally-none`, `tally-eq`; `length-counts`, `tally-counts` a length and a tally as sums of counts;
 --   `tally-all` a test that all pass gives the length; `tally-length` a tally is at most the length.
 use mathlib.Core.Path.{_≡_, refl, sym, ap, _∙_}
 use mathlib.Core.Bool.{Bool, true, false, cond}
@@ -8,7 +8,7 @@ use Prim.Native.Nat.{ℕ, zero, suc, _+_, _≤_, _<_}
 use native.Mathlib.Nat.{zero-add}
 use native.Mathlib.Omega.{arith}
 use lib.Dec.{eqb}
-use lib.ListN.{length}
+use lib.ListN.{length, getD}
 use borrow.Author.Tests.{eqb-true, eq-eqb}
 use Rattle.tally.specs.Tally.{one, sum, count, tally}
 use Rattle.tally.proofs.Test.{by-test, one-le}
@@ -21,6 +21,13 @@ count-self x l = rw (eq-eqb x x refl) (omega arith)
 pub count-later : (x y : ℕ) (l : List ℕ) → 0 < count x l → 0 < count x (y ∷ l)
 unfolding count
 count-later x y l h = omega arith
+
+-- an element stands in its list
+pub count-at : (l : List ℕ) (i : ℕ) → i < length l → 0 < count (getD l i 0) l
+unfolding count
+count-at [] i h = absurd (omega arith)
+count-at (y ∷ l) zero h = rw (eq-eqb y y refl) (omega arith)
+count-at (y ∷ l) (suc i) h = omega (arith, count-at l i (omega arith))
 
 pub count-append : (x : ℕ) (l m : List ℕ) → count x (l ++ m) ≡ count x l + count x m
 unfolding count
@@ -56,6 +63,11 @@ tally-has p c (d ∷ l) e h =
     by-test (eqb c d)
     (λ t. rw (sym (eqb-true c d t), e) (omega arith))
     (λ t. let r : 0 < tally p l = tally-has p c l e (omega (arith, rw (t, zero-add (count c l)) at h)) in omega arith)
+
+pub tally-eq : (x : ℕ) (l : List ℕ) → tally (eqb x) l ≡ count x l
+unfolding tally count
+tally-eq x [] = refl
+tally-eq x (y ∷ l) = rw (tally-eq x l)
 
 pub tally-le : (p q : ℕ → Bool) (l : List ℕ) → ((c : ℕ) → p c ≡ true → q c ≡ true) → tally p l ≤ tally q l
 unfolding tally

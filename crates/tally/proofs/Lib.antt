@@ -2,6 +2,7 @@ pub mod Test
 pub mod Sum
 pub mod Count
 pub mod Pick
+pub mod Order
 pub mod Parity
 pub mod Every
 pub mod First

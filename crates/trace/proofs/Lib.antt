@@ -1,3 +1,5 @@
 pub mod Places
 pub mod Tracing
 pub mod Flag
+pub mod Scanning
+pub mod Level

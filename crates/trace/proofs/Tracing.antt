@@ -1,7 +1,7 @@
 -- The loop that follows one line: where it stands, and what it has written and marked. Assumes nothing.
 -- Definitions: `Tracing` the loop's invariant at the crossing c.
 -- Main laws: `border-of` the ground's border; `ready` a crossing of the line enters a cell of the picture; `onward` the step is the next crossing; `begin`, `go`, `stop`, `never` the loop's moves: it begins at the
---   lead, goes on while the next crossing is not the lead, has the whole line when it is, and never runs out; `encode-at`, `encode-length` the words of a line.
+--   lead, goes on while the next crossing is not the lead, has the whole line when it is, and never runs out.
 use mathlib.Core.Path.{_≡_, refl, sym, ap, _∙_}
 use mathlib.Core.Bool.{Bool, true, false}
 use mathlib.Core.List.{List, [], _∷_, _++_}
@@ -32,20 +32,9 @@ use Rattle.outline.proofs.Border.{Border, border-fits}
 use Rattle.outline.proofs.Codes.{into-out}
 use Rattle.outline.proofs.Entered.{Entered, heads, goes-heading}
 use Rattle.outline.proofs.Paper.{bit, leave-is, enteredAt, next-is, closedAt}
+use Rattle.outline.proofs.Words.{encode-length, encode-plain}
 use Rattle.outline.proofs.Bytes.{mark, markAll, mark-take}
 use Rattle.trace.specs.Trace.{Ground, pasted}
-
--- ---- the words of a line
-pub encode-length : (L : Layout) (k : ℕ) (b : Bool) (l : List ℕ) → length (encode L k b l) ≡ length l
-unfolding encode
-encode-length L k b [] = refl
-encode-length L k b (c ∷ l) = ap suc (encode-length L k false l)
-
-pub encode-at : (L : Layout) (k : ℕ) (l : List ℕ) (i : ℕ) → i < length l → getD (encode L k false l) i 0 ≡ word L (getD l i 0) k false
-unfolding encode
-encode-at L k [] i h = absurd (omega arith)
-encode-at L k (c ∷ l) zero h = refl
-encode-at L k (c ∷ l) (suc i) h = encode-at L k l i (omega arith)
 
 -- ---- states and cells
 entry-first : (w : ℕ) (g : Heading) (t : ℕ) → first (out w (back g) t) ≡ entry w g t
@@ -130,7 +119,7 @@ module _ (P : Picture) (G : Ground P) (k : ℕ) where
       wrote : (v : ℕ) → v ≡ word L (T .c) k false → set words n v ≡ paste words₀ from F (suc (T .i))
       unfolding line
       wrote v p =
-          let q : getD F (T .i) 0 ≡ v = encode-at L k (line P k a) (T .i) in-line ∙ ap (λ (z : ℕ). word L z k false) (T .walk .here) ∙ sym p in
+          let q : getD F (T .i) 0 ≡ v = encode-plain L k (line P k a) (T .i) in-line ∙ ap (λ (z : ℕ). word L z k false) (T .walk .here) ∙ sym p in
           ap (λ (z : ℕ). set words z v) (T .done)
           ∙ ap (λ (l : List ℕ). set l (from + T .i) v) (T .told)
           ∙ ap (λ (z : ℕ). set (paste words₀ from F (T .i)) (from + T .i) z) (sym q)

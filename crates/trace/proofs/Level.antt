@@ -1,0 +1,192 @@
+-- One level: the loop that finds each lead and follows its line. Assumes nothing.
+-- Definitions: `At` what holds at a place before the next lead is looked for; `Scanning` the loop's invariant, where the place leads or is the last.
+-- Main laws: `words-grow` words only get more; `mark-all-low` marks stay low; `at-begin`, `to-lead`, `at-line`, `line-room`, `at-end` the loop's moves.
+use mathlib.Core.Path.{_≡_, refl, sym, ap, _∙_}
+use mathlib.Core.Bool.{Bool, true, false, cond}
+use mathlib.Core.List.{List, [], _∷_, _++_, append-nil}
+use Prim.Native.Nat.{ℕ, zero, suc, _+_, _-_, _*_, _/_, _%_, _≤_, _<_}
+use native.Mathlib.Nat.{mul-le-mul}
+use native.Mathlib.Omega.{arith}
+use lib.Dec.{eqb, ltb}
+use lib.ListN.{length, take, drop, getD, set, length-append, take-append-drop}
+use lib.Seq.{getD-set-same, getD-set-other, set-out}
+use borrow.Author.Tests.{eqb-true, eqb-false, ne-eqb, ltb-true, ltb-false}
+use Rattle.tally.specs.Tally.{firstFrom}
+use Rattle.tally.proofs.Test.{by-test, no}
+use Rattle.tally.proofs.First.{from-ge, from-le, from-before, from-passes}
+use Rattle.matte.specs.Layout.{Layout}
+use Rattle.matte.specs.Picture.{Picture, size}
+use Rattle.edgel.specs.Edgel.{horizontal, first}
+use Rattle.outline.specs.Line.{cutAt, line, isLead, lines}
+use Rattle.outline.specs.List.{encode, levelWords}
+use Rattle.outline.proofs.Border.{Border}
+use Rattle.outline.proofs.Codes.{right-in}
+use Rattle.outline.proofs.Paper.{closedAt}
+use Rattle.outline.proofs.Bytes.{marked, mark, markAll, mark-all-length, mark-past}
+use Rattle.outline.proofs.Places.{Scanned, marks-begin, place-line, line-low, lead-cut}
+use Rattle.outline.proofs.Growing.{linesTo, wordsTo, lines-none, lines-one, lines-skip, lines-whole, words-none, words-line, words-skip, words-whole}
+use Rattle.outline.proofs.Words.{encode-length}
+use Rattle.trace.specs.declared.scan.Written.{Written}
+use Rattle.trace.specs.Trace.{Ground, Worn, pasted, fresh}
+use Rattle.trace.proofs.Tracing.{border-of, place-in}
+use Rattle.trace.proofs.Scanning.{own, own-not, own-self, paste-on, fresh-lead, cut-column, over}
+
+-- ---- marks
+mark-low : (v n : ℕ) (bytes : List ℕ) (c : ℕ) → ((i : ℕ) → i < n → getD bytes i 0 ≤ v) → (i : ℕ) → i < n → getD (mark v bytes c) i 0 ≤ v
+unfolding mark
+mark-low v n bytes c q i h =
+    by-test (horizontal c)
+    (λ e. rw e
+    (by-test (eqb i (first c))
+    (λ t. by-test (ltb i (length bytes))
+    (λ u.
+    let s : first c ≡ i = sym (eqb-true i (first c) t) in
+    rw (s, getD-set-same bytes i v 0 (ltb-true i (length bytes) u)) (omega arith))
+    (λ u.
+    let s : first c ≡ i = sym (eqb-true i (first c) t) in
+    rw (s, set-out bytes i v (ltb-false i (length bytes) u)) (q i h)))
+    (λ t. rw (getD-set-other bytes (first c) i v 0 (eqb-false i (first c) t)) (q i h))))
+    (λ e. rw e (q i h))
+
+pub mark-all-low : (v n : ℕ) (bytes l : List ℕ) → ((i : ℕ) → i < n → getD bytes i 0 ≤ v) → (i : ℕ) → i < n → getD (markAll v bytes l) i 0 ≤ v
+unfolding markAll
+mark-all-low v n bytes [] q = q
+mark-all-low v n bytes (c ∷ l) q = mark-all-low v n (mark v bytes c) l (mark-low v n bytes c q)
+
+pub paste-none : (d : List ℕ) (n : ℕ) → d ≡ pasted d n []
+paste-none d n =
+    let s : n + 0 ≡ n = omega arith in
+    sym (ap (λ (z : ℕ). take n d ++ [] ++ drop z d) s ∙ ap (λ (l : List ℕ). l ++ drop n d) (append-nil (take n d)) ∙ take-append-drop n d)
+
+module _ (P : Picture) (G : Ground P) (k : ℕ) (L : Layout) where
+  abbrev B : Border P
+  B = border-of P G
+
+  abbrev W : ℕ → List ℕ
+  W = wordsTo P k L
+
+  -- ---- words only get more
+  one-more : (i : ℕ) → length (W i) ≤ length (W (suc i))
+  one-more i =
+      by-test (isLead P k (2 * i))
+      (λ e. omega (arith, ap length (words-line P k L i e), length-append (W i) (encode L k true (line P k (2 * i)))))
+      (λ e. omega (arith, ap length (words-skip P k L i e)))
+
+  pub words-grow : (i n : ℕ) → length (W i) ≤ length (W (i + n))
+  words-grow i zero = let s : i + 0 ≡ i = omega arith in rw s (omega arith)
+  words-grow i (suc n) =
+      let s : i + suc n ≡ suc (i + n) = omega arith in
+      rw s (omega (arith, words-grow i n, one-more (i + n)))
+
+  pub words-most : (i : ℕ) → i ≤ size P → length (W i) ≤ length (levelWords L k (lines P k))
+  words-most i h =
+      let s : i + (size P - i) ≡ size P = omega arith in
+      omega (arith, words-grow i (size P - i), ap (λ (z : ℕ). length (W z)) s, ap length (words-whole P k L))
+
+  module _ (from lines₀ : ℕ) (work₀ words₀ : List ℕ) (wide : size P ≤ length work₀) (room : from + length (levelWords L k (lines P k)) ≤ length words₀) where
+    pub record At (p : ℕ) (s : Written) (work words : List ℕ) : Type 0 where
+      pub inside : p < size P
+      pub scanned : Scanned P B k p (marked (own k) work)
+      pub told : words ≡ pasted words₀ from (W p)
+      pub words-so : s .words ≡ from + length (W p)
+      pub lines-so : s .lines ≡ lines₀ + length (linesTo P k p)
+      pub worn : Worn (size P) (k + 1) work₀ work
+
+    pub record Scanning (p : ℕ) (s : Written) (work words : List ℕ) : Type 0 where
+      pub stand : At p s work words
+      pub leads : p < size P - 1 → isLead P k (2 * p) ≡ true
+
+    pub at-begin : ((i : ℕ) → i < size P → getD work₀ i 0 ≤ k) → (s : Written) → s .words ≡ from → s .lines ≡ lines₀ → At 0 s work₀ words₀
+    at-begin q s e f =
+        record {
+          inside = omega (arith, mul-le-mul (G .sides .w-least) (G .sides .h-least));
+          scanned = marks-begin P B k (marked (own k) work₀) (λ d o h. own-not k work₀ d (q (first d) (place-in P G k d o)));
+          told = paste-none words₀ from ∙ ap (pasted words₀ from) (sym (words-none P k L));
+          words-so = omega (arith, ap length (words-none P k L));
+          lines-so = omega (arith, ap length (lines-none P k));
+          worn = record { long = refl; low = λ i h. omega (arith, q i h); rest = refl };
+        }
+
+    -- over the places that are not fresh, to the next lead or the last place
+    pub to-lead : (i r : ℕ) (s : Written) (work words : List ℕ) → At i s work words → r ≡ firstFrom (fresh (P .px) work k) i (size P - 1 - i) → Scanning r s work words
+    to-lead i r s work words A e =
+        let F = fresh (P .px) work k in
+        let n = size P - 1 - i in
+        let f = firstFrom F i n in
+        let g : i ≤ f = from-ge F i n in
+        let h : f ≤ i + n = from-le F i n in
+        let u : i + (f - i) ≡ f = omega arith in
+        let S = over P G k work L i (f - i) (A .scanned) (λ j a b. from-before F i n j a (omega arith)) in
+        let M : Scanned P B k f (marked (own k) work) = rw u at (S .scanned) in
+        rw e
+        (record {
+          stand = record {
+            inside = omega (arith, A .inside);
+            scanned = M;
+            told = A .told ∙ ap (pasted words₀ from) (sym (S .words-same) ∙ ap W u);
+            words-so = A .words-so ∙ ap (λ (l : List ℕ). from + length l) (sym (S .words-same) ∙ ap W u);
+            lines-so = A .lines-so ∙ ap (λ (l : List (List ℕ)). lines₀ + length l) (sym (S .lines-same) ∙ ap (linesTo P k) u);
+            worn = A .worn;
+          };
+          leads = λ t. fresh-lead P G k work f (omega arith) M (from-passes F i n (omega (arith, A .inside)));
+        })
+
+    module _ (p : ℕ) (s : Written) (work words : List ℕ) (Z : Scanning p s work words) (t : p < size P - 1) where
+      lead : isLead P k (2 * p) ≡ true
+      lead = Z .leads t
+
+      pub lead-here : cutAt P k (2 * p) ≡ true
+      lead-here = lead-cut P B k (2 * p) lead
+
+      next-words : W (suc p) ≡ W p ++ encode L k true (line P k (2 * p))
+      next-words = words-line P k L p lead
+
+      pub line-room : s .words + length (line P k (2 * p)) ≤ length words₀
+      line-room =
+          omega (arith, Z .stand .words-so, ap length next-words, length-append (W p) (encode L k true (line P k (2 * p))), encode-length L k true (line P k (2 * p)), words-most (suc p) (omega arith))
+
+      pub at-line : (s′ : Written) (work′ words′ : List ℕ) → s′ .words ≡ s .words + length (line P k (2 * p)) → s′ .lines ≡ s .lines + 1
+          → work′ ≡ markAll (k + 1) work (line P k (2 * p)) → words′ ≡ pasted words (s .words) (encode L k true (line P k (2 * p))) → At (p + 1) s′ work′ words′
+      at-line s′ work′ words′ a b u v =
+          let y : p + 1 ≡ suc p = omega arith in
+          let ls = ap length (lines-one P k p lead) in
+          rw y
+          (record {
+            inside = omega arith;
+            scanned = rw u (place-line P B k (own k) (k + 1) (own-self k) p work (omega (arith, wide, Z .stand .worn .long)) (Z .stand .scanned) lead);
+            told = v
+                ∙ ap (λ (l : List ℕ). pasted l (s .words) (encode L k true (line P k (2 * p)))) (Z .stand .told)
+                ∙ paste-on words₀ from (s .words) (W p) (encode L k true (line P k (2 * p))) (Z .stand .words-so) (omega (arith, line-room))
+                ∙ ap (pasted words₀ from) (sym next-words);
+            words-so = omega (arith, a, Z .stand .words-so, ap length next-words, length-append (W p) (encode L k true (line P k (2 * p))), encode-length L k true (line P k (2 * p)));
+            lines-so = omega (arith, b, Z .stand .lines-so, ls, lib.ListN.length-append (linesTo P k p) (line P k (2 * p) ∷ []));
+            worn = record {
+              long = ap length u ∙ mark-all-length (k + 1) work (line P k (2 * p)) ∙ Z .stand .worn .long;
+              low = λ i h. rw u (mark-all-low (k + 1) (size P) work (line P k (2 * p)) (Z .stand .worn .low) i h);
+              rest = ap (drop (size P)) u
+                  ∙ mark-past (k + 1) work (line P k (2 * p)) (size P) (λ c h. line-low P B k (2 * p) c lead-here h)
+                  ∙ Z .stand .worn .rest;
+            };
+          })
+
+    pub record Done (s : Written) (work words : List ℕ) : Type 0 where
+      pub words-are : s .words ≡ from + length (levelWords L k (lines P k))
+      pub lines-are : s .lines ≡ lines₀ + length (lines P k)
+      pub all : words ≡ pasted words₀ from (levelWords L k (lines P k))
+      pub worn : Worn (size P) (k + 1) work₀ work
+
+    pub at-end : (p : ℕ) (s : Written) (work words : List ℕ) → Scanning p s work words → size P - 1 ≤ p → Done s work words
+    at-end p s work words Z h =
+        let y : suc p ≡ size P = omega (arith, Z .stand .inside) in
+        let e : isLead P k (2 * p) ≡ false =
+        by-test (isLead P k (2 * p))
+        (λ t. absurd (omega (arith, right-in (P .w) (P .h) p (Z .stand .inside) (cut-column P G k p (lead-cut P B k (2 * p) t)))))
+        (λ t. t) in
+        let a : W p ≡ levelWords L k (lines P k) = sym (words-skip P k L p e) ∙ ap W y ∙ words-whole P k L in
+        let b : linesTo P k p ≡ lines P k = sym (lines-skip P k p e) ∙ ap (linesTo P k) y ∙ lines-whole P k in
+        record {
+          words-are = Z .stand .words-so ∙ ap (λ (l : List ℕ). from + length l) a;
+          lines-are = Z .stand .lines-so ∙ ap (λ (l : List (List ℕ)). lines₀ + length l) b;
+          all = Z .stand .told ∙ ap (pasted words₀ from) a;
+          worn = Z .stand .worn;
+        }

@@ -1,0 +1,130 @@
+-- Places of one level that are fresh, and those that are not. Assumes nothing.
+-- Definitions: `own` the byte is the level's mark; `Stand` what is unchanged at a later place.
+-- Main laws: `length-pasted`, `paste-on` pasting behind what was pasted; `own-self`, `own-not`; `cut-column` a crossed horizontal edgel is not at a row's end; `fresh-lead` a fresh place leads, `stale` one that
+--   is not fresh does not; `over` from a place over those that are not fresh.
+use mathlib.Core.Path.{_≡_, refl, sym, ap, _∙_}
+use mathlib.Core.Bool.{Bool, true, false, not, _&&_}
+use mathlib.Core.List.{List, [], _∷_, _++_, append-assoc}
+use Prim.Native.Nat.{ℕ, zero, suc, _+_, _-_, _*_, _/_, _%_, _≤_, _<_}
+use native.Mathlib.Nat.{mod-lt, div-add-mod'}
+use native.Mathlib.Omega.{arith}
+use lib.Dec.{eqb, ltb}
+use lib.Arith.{digits-mod}
+use lib.ListN.{length, take, drop, getD, length-append}
+use lib.Seq.{take-at, drop-append-add, length-take-le}
+use borrow.Author.Tests.{eqb-true, eqb-false, eq-eqb, ne-eqb, ltb-true, ltb-false, lt-ltb, le-ltb, not-true, not-false}
+use Rattle.tally.specs.Tally.{differ, firstFrom}
+use Rattle.tally.proofs.Test.{by-test, no, and-1, and-2, both, differ-self}
+use Rattle.tally.proofs.First.{from-ge, from-le, from-before, from-passes}
+use Rattle.matte.specs.Layout.{Layout}
+use Rattle.matte.specs.Picture.{Picture, size, at, high}
+use Rattle.edgel.specs.Edgel.{first}
+use Rattle.outline.specs.Line.{cutAt, line, isLead, lines}
+use Rattle.outline.specs.List.{encode, levelWords}
+use Rattle.outline.proofs.Border.{Border}
+use Rattle.outline.proofs.Codes.{cut-flat}
+use Rattle.outline.proofs.Bytes.{marked, markAll, mark-all-length, mark-past}
+use Rattle.outline.proofs.Places.{Scanned, marks-begin, place-tell, place-skip, place-line, line-low, lead-cut, not-lead}
+use Rattle.outline.proofs.Growing.{linesTo, wordsTo, lines-none, lines-one, lines-skip, lines-whole, words-none, words-line, words-skip, words-whole}
+use Rattle.trace.specs.Trace.{Ground, Worn, pasted, fresh}
+use Rattle.trace.proofs.Tracing.{border-of}
+
+-- ---- pasting
+pub length-pasted : (d : List ℕ) (n : ℕ) (f : List ℕ) → n + length f ≤ length d → length (pasted d n f) ≡ length d
+length-pasted d n f h =
+    let a : length (take n d ++ f) ≡ n + length f = length-append (take n d) f ∙ ap (λ (z : ℕ). z + length f) (length-take-le n d (omega arith)) in
+    omega (arith, length-append (take n d ++ f) (drop (n + length f) d), lib.ListN.length-drop (n + length f) d)
+
+pub paste-on : (d : List ℕ) (n m : ℕ) (f g : List ℕ) → m ≡ n + length f → m ≤ length d → pasted (pasted d n f) m g ≡ pasted d n (f ++ g)
+paste-on d n m f g e h =
+    let a : length (take n d ++ f) ≡ m = length-append (take n d) f ∙ ap (λ (z : ℕ). z + length f) (length-take-le n d (omega arith)) ∙ sym e in
+    let t : take m (pasted d n f) ≡ take n d ++ f = take-at (take n d ++ f) (drop (n + length f) d) m a in
+    let u : drop (m + length g) (pasted d n f) ≡ drop (length g) (drop (n + length f) d) =
+    ap (λ (z : ℕ). drop (z + length g) (pasted d n f)) (sym a) ∙ drop-append-add (take n d ++ f) (drop (n + length f) d) (length g) in
+    let v : n + length f + length g ≡ n + length (f ++ g) = omega (arith, length-append f g) in
+    ap (λ (l : List ℕ). l ++ g ++ drop (m + length g) (pasted d n f)) t
+    ∙ ap (λ (l : List ℕ). take n d ++ f ++ g ++ l) (u ∙ lib.Seq.drop-drop (length g) (n + length f) d ∙ ap (λ (z : ℕ). drop z d) v)
+    ∙ ap (λ (l : List ℕ). l ++ drop (n + length (f ++ g)) d) (append-assoc (take n d) f g)
+
+-- ---- fresh places
+unfoldable pub own : ℕ → ℕ → Bool
+own k v = eqb v (k + 1)
+
+pub own-self : (k : ℕ) → own k (k + 1) ≡ true
+unfolding own
+own-self k = eq-eqb (k + 1) (k + 1) refl
+
+pub own-not : (k : ℕ) (work : List ℕ) (d : ℕ) → getD work (first d) 0 ≤ k → marked (own k) work d ≡ false
+unfolding own marked
+own-not k work d h = ne-eqb (getD work (first d) 0) (k + 1) (λ e. omega arith)
+
+module _ (P : Picture) (G : Ground P) (k : ℕ) where
+  abbrev B : Border P
+  B = border-of P G
+
+  -- a place at a row's end and the next row's start are both border
+  row-end : (i : ℕ) → i + 1 < size P → i % P .w + 1 ≡ P .w → differ (high P k i) (high P k (i + 1)) ≡ false
+  row-end i l e =
+      let d : i / P .w * P .w + i % P .w ≡ i = div-add-mod' i (P .w) in
+      let p : 0 < P .w = omega (arith, G .sides .w-least) in
+      let s : i + 1 ≡ (i / P .w + 1) * P .w + 0 = omega arith in
+      let m : (i + 1) % P .w ≡ 0 = ap (λ (z : ℕ). z % P .w) s ∙ digits-mod (i / P .w + 1) p in
+      ap (λ (z : ℕ). differ (ltb k z) (high P k (i + 1))) (B .rights i (omega arith) e)
+      ∙ ap (λ (z : ℕ). differ (high P k 0) (ltb k z)) (B .lefts (i + 1) l m)
+      ∙ differ-self (high P k 0)
+
+  crossed-cut : (i : ℕ) → i + 1 < size P → differ (high P k i) (high P k (i + 1)) ≡ true → cutAt P k (2 * i) ≡ true
+  crossed-cut i l e =
+      let m : i % P .w < P .w = mod-lt i (omega (arith, G .sides .w-least)) in
+      by-test (ltb (i % P .w + 1) (P .w))
+      (λ t. cut-flat (high P k) (P .w) (P .h) i ∙ both (both t (lt-ltb i (size P) (omega arith))) e)
+      (λ t. no e (row-end i l (omega (arith, ltb-false (i % P .w + 1) (P .w) t))))
+
+  cut-crossed : (i : ℕ) → cutAt P k (2 * i) ≡ true → (i % P .w + 1 < P .w) × (differ (high P k i) (high P k (i + 1)) ≡ true)
+  cut-crossed i o =
+      let z = sym (cut-flat (high P k) (P .w) (P .h) i) ∙ o in
+      (ltb-true _ _ (and-1 (ltb (i % P .w + 1) (P .w)) _ (and-1 _ _ z)), and-2 (ltb (i % P .w + 1) (P .w) && ltb i (size P)) _ z)
+
+  pub cut-column : (i : ℕ) → cutAt P k (2 * i) ≡ true → i % P .w + 1 < P .w
+  cut-column i o = cut-crossed i o .0
+
+  module _ (work : List ℕ) where
+    abbrev m : ℕ → Bool
+    m = marked (own k) work
+
+    mark-is : (i : ℕ) → m (2 * i) ≡ eqb (getD work i 0) (k + 1)
+    unfolding marked own
+    mark-is i = let s : 2 * i / 2 ≡ i = omega arith in ap (λ (z : ℕ). eqb (getD work z 0) (k + 1)) s
+
+    pub fresh-lead : (i : ℕ) → i + 1 < size P → Scanned P B k i m → fresh (P .px) work k i ≡ true → isLead P k (2 * i) ≡ true
+    fresh-lead i l M e =
+        let o : cutAt P k (2 * i) ≡ true = crossed-cut i l (and-1 _ _ e) in
+        sym (place-tell P B k i m M o) ∙ ap not (mark-is i) ∙ and-2 (differ (high P k i) (high P k (i + 1))) _ e
+
+    pub stale : (i : ℕ) → Scanned P B k i m → fresh (P .px) work k i ≡ false → isLead P k (2 * i) ≡ false
+    stale i M e =
+        by-test (isLead P k (2 * i))
+        (λ t.
+        let o : cutAt P k (2 * i) ≡ true = lead-cut P B k (2 * i) t in
+        no (both (cut-crossed i o .1) (sym (ap not (mark-is i)) ∙ place-tell P B k i m M o ∙ t)) e)
+        (λ t. t)
+
+    -- from a place over those that are not fresh
+    module _ (L : Layout) where
+      pub record Stand (i j : ℕ) : Type 0 where
+        pub scanned : Scanned P B k j m
+        pub lines-same : linesTo P k j ≡ linesTo P k i
+        pub words-same : wordsTo P k L j ≡ wordsTo P k L i
+
+      pub over : (i n : ℕ) → Scanned P B k i m → ((j : ℕ) → i ≤ j → j < i + n → fresh (P .px) work k j ≡ false) → Stand i (i + n)
+      over i zero M q = let s : i + 0 ≡ i = omega arith in rw s (record { scanned = M; lines-same = refl; words-same = refl })
+      over i (suc n) M q =
+          let S = over i n M (λ j a b. q j a (omega arith)) in
+          let s : i + suc n ≡ suc (i + n) = omega arith in
+          let e : isLead P k (2 * (i + n)) ≡ false = stale (i + n) (S .scanned) (q (i + n) (omega arith) (omega arith)) in
+          rw s
+          (record {
+            scanned = place-skip P B k (i + n) m (S .scanned) e;
+            lines-same = lines-skip P k (i + n) e ∙ S .lines-same;
+            words-same = words-skip P k L (i + n) e ∙ S .words-same;
+          })

@@ -1,10 +1,10 @@
 -- States and codes of horizontal crossings, and the bytes they mark. Assumes nothing.
--- Main laws: `double`, `lead-code` a horizontal crossing's code is that of a place exactly if it starts there; `lead-at` the state of a lead; `mark-flat`, `mark-tall` what a crossing marks; `area-most` a picture has at most
---   4,194,304 samples.
+-- Main laws: `double`, `lead-code` a horizontal crossing's code is that of a place exactly if it starts there; `lead-at` the state of a lead; `mark-flat`, `mark-tall` what a crossing marks; `area-most`, `some` a picture has at most
+--   4,194,304 samples, and some.
 use mathlib.Core.Path.{_≡_, refl, sym, ap, _∙_}
 use mathlib.Core.Bool.{Bool, true, false, cond}
 use mathlib.Core.List.{List}
-use Prim.Native.Nat.{ℕ, _+_, _*_, _/_, _%_, _≤_}
+use Prim.Native.Nat.{ℕ, _+_, _*_, _/_, _%_, _≤_, _<_}
 use native.Mathlib.Nat.{mul-le-mul}
 use native.Mathlib.Omega.{arith}
 use lib.Dec.{eqb}
@@ -77,3 +77,6 @@ mark-tall v bytes s h = ap (λ (b : Bool). cond b (set bytes (first (codeAt s)) 
 
 pub area-most : {P : Picture} → Ground P → length (P .px) ≤ 4194304
 area-most {P} G = omega (arith, G .whole, mul-le-mul (G .sides .w-most) (G .sides .h-most))
+
+pub some : {P : Picture} → Ground P → 0 < length (P .px)
+some {P} G = omega (arith, G .whole, mul-le-mul (G .sides .w-least) (G .sides .h-least))

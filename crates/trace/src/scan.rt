@@ -12,7 +12,8 @@ ghost use Rattle.matte.specs.Picture.{picture, levelsFit};
 ghost use Rattle.edgel.specs.Word.{flagged};
 ghost use Rattle.outline.specs.Line.{lines};
 ghost use Rattle.outline.specs.List.{levelWords, listed};
-ghost use Rattle.trace.specs.Trace.{Ground, Worn, fresh, pasted};
+ghost use Rattle.trace.specs.Trace.{fresh};
+ghost use Rattle.trace.specs.Level.{LevelReady, LevelDone, AllReady, AllDone};
 
 // The words and lines written so far.
 pub struct Written {
@@ -42,4 +43,22 @@ fn search(px: &[u8], work: &[u8], k: u8, from: usize) -> usize
         p += 1;
     }
     p
+}
+
+// All lines of level k, their words behind those that stand there already.
+fn level_lines(px: &[u8], w: usize, h: usize, k: u8, work: &mut [u8], words: &mut [u32], st: Written) -> Written
+    requires { ⌜ LevelReady (picture w h (now px)) k (now work) (now words) st ⌝ }
+    ensures { λ r. ⌜ LevelDone (picture w h (now (px .entry))) k (now (work .entry)) (now (words .entry)) st r (now (work .exit)) (now (words .exit)) ⌝ }
+{
+    let end = px.len() - 1;
+    let mut s = st;
+    let mut p = search(px, work, k, 0);
+    while p < end {
+        let from = s.words;
+        let m = s.lines;
+        let n = trace_line(px, w, h, k, work, words, from, p);
+        s = Written { words: n, lines: m + 1 };
+        p = search(px, work, k, p + 1);
+    }
+    s
 }

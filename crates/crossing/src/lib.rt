@@ -1,5 +1,21 @@
 // The crossing call: where exactly a level crosses an edgel.
+use edgel::Heading;
 use matte::Answer;
+use matte::Verdict;
+use refuse::area;
+use refuse::levels_fit;
+use refuse::sides_fit;
+use words::edgel_fits;
+ghost use mathlib.Core.Path.{_≡_};
+ghost use mathlib.Core.Bool.{Bool, true, false, cond};
+ghost use Prim.Native.Nat.{ℕ, _+_, _*_, _<_, _≤_};
+ghost use lib.Dec.{ltb};
+ghost use Rattle.tally.specs.Tally.{apart, differ};
+ghost use Rattle.matte.specs.Layout.{eight};
+ghost use Rattle.matte.specs.Picture.{picture};
+ghost use Rattle.edgel.specs.Heading.{number};
+ghost use Rattle.edgel.specs.Edgel.{headingOf, second};
+ghost use Rattle.crossing.specs.Crossing.{whole, along, crossingVerdict, crossingAnswer};
 
 // The answer: the heading by its number, the fraction num/den of the way, and the point as floats.
 #[repr(C)]
@@ -10,4 +26,178 @@ pub struct Crossing {
     pub den: u32,
     pub x: f64,
     pub y: f64,
+}
+
+// One of the two samples is above the level and the other is not.
+fn splits(k: u8, a: u8, b: u8) -> bool
+    ensures { λ r. ⌜ r ≡ differ (ltb k a) (ltb k b) ⌝ }
+{
+    if k < a {
+        return !(k < b);
+    }
+    k < b
+}
+
+// The place of an edgel's right or bottom end.
+fn other_end(w: usize, code: u32) -> usize
+    requires { ⌜ w ≤ 2048 ⌝ }
+    ensures { λ r. ⌜ r ≡ second w code ⌝ }
+{
+    let i = (code / 2) as usize;
+    if code % 2 == 0 {
+        return i + 1;
+    }
+    i + w
+}
+
+// The distance of two numbers.
+fn distance(a: u32, b: u32) -> u32
+    ensures { λ r. ⌜ r ≡ apart a b ⌝ }
+{
+    if a < b {
+        return b - a;
+    }
+    a - b
+}
+
+// How far the level is from an edgel's left or top sample, doubled.
+fn num_of(k: u8, a: u8) -> u32
+    ensures { λ r. ⌜ r ≡ apart (2 * k + 1) (2 * a) ⌝ }
+{
+    distance(2 * (k as u32) + 1, 2 * (a as u32))
+}
+
+// How far an edgel's samples are apart, doubled.
+fn den_of(a: u8, b: u8) -> u32
+    ensures { λ r. ⌜ r ≡ 2 * apart a b ⌝ }
+{
+    2 * distance(a as u32, b as u32)
+}
+
+// The heading of a crossing, by its edgel's direction and whether the left or top end is high.
+fn heading_of(flat: bool, high: bool) -> Heading
+    ensures { λ r. ⌜ r ≡ headingOf flat high ⌝ }
+{
+    if flat {
+        if high {
+            return Heading::North;
+        }
+        return Heading::South;
+    }
+    if high {
+        return Heading::East;
+    }
+    Heading::West
+}
+
+fn heading_number(flat: bool, high: bool) -> u32
+    ensures { λ r. ⌜ r ≡ number (headingOf flat high) ⌝ }
+{
+    let g = heading_of(flat, high);
+    g.number() as u32
+}
+
+// A whole number as a float.
+fn float_of(n: u32) -> f64
+    ensures { λ r. ⌜ r ≡ whole n ⌝ }
+{
+    n as f64
+}
+
+// A coordinate, moved by the fraction a/b where the edgel runs along it: one division and one addition.
+fn coordinate(moves: bool, n: u32, a: u32, b: u32) -> f64
+    ensures { λ r. ⌜ r ≡ cond moves (along n a b) (whole n) ⌝ }
+{
+    if moves {
+        return n as f64 + (a as f64) / (b as f64);
+    }
+    n as f64
+}
+
+// The refusals 1 2 3 8 10.
+fn crossing_verdict(w: usize, h: usize, px: &[u8], k: u8, code: u32) -> Verdict
+    ensures { λ r. ⌜ r ≡ crossingVerdict (picture w h (now (px .entry))) k code eight ⌝ }
+{
+    if !sides_fit(w, h) {
+        return Verdict {
+            number: 1,
+            place: 0,
+        };
+    }
+    if px.len() != area(w, h) {
+        return Verdict {
+            number: 2,
+            place: 0,
+        };
+    }
+    let ks = [k];
+    if !levels_fit(&ks) {
+        return Verdict {
+            number: 3,
+            place: 0,
+        };
+    }
+    if !edgel_fits(w, h, code) {
+        return Verdict {
+            number: 8,
+            place: 0,
+        };
+    }
+    let i = (code / 2) as usize;
+    let j = other_end(w, code);
+    if !splits(k, px[i], px[j]) {
+        return Verdict {
+            number: 10,
+            place: 0,
+        };
+    }
+    Verdict {
+        number: 0,
+        place: 0,
+    }
+}
+
+// Where level k crosses the edgel of a code.
+pub fn crossing_at(w: usize, h: usize, px: &[u8], k: u8, code: u32) -> Crossing
+    ensures { λ r. ⌜ r ≡ crossingAnswer (picture w h (now (px .entry))) k code eight ⌝ }
+{
+    let v = crossing_verdict(w, h, px, k, code);
+    let number = v.number;
+    let place = v.place;
+    if number != 0 {
+        return Crossing {
+            answer: Answer {
+                number: number,
+                place: place,
+                words: 0,
+                lines: 0,
+            },
+            heading: 0,
+            num: 0,
+            den: 0,
+            x: float_of(0),
+            y: float_of(0),
+        };
+    }
+    let i = (code / 2) as usize;
+    let j = other_end(w, code);
+    let a = px[i];
+    let num = num_of(k, a);
+    let den = den_of(a, px[j]);
+    let flat = code % 2 == 0;
+    let p = code / 2;
+    let c = w as u32;
+    Crossing {
+        answer: Answer {
+            number: 0,
+            place: 0,
+            words: 0,
+            lines: 0,
+        },
+        heading: heading_number(flat, k < a),
+        num: num,
+        den: den,
+        x: coordinate(flat, p % c, num, den),
+        y: coordinate(!flat, p / c, num, den),
+    }
 }

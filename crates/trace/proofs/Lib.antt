@@ -3,3 +3,4 @@ pub mod Tracing
 pub mod Flag
 pub mod Scanning
 pub mod Level
+pub mod All

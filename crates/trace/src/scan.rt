@@ -62,3 +62,18 @@ fn level_lines(px: &[u8], w: usize, h: usize, k: u8, work: &mut [u8], words: &mu
     }
     s
 }
+
+// All lines of all levels, from the first place on.
+pub fn all_levels(px: &[u8], w: usize, h: usize, ks: &[u8], work: &mut [u8], words: &mut [u32]) -> Written
+    requires { ⌜ AllReady (picture w h (now px)) (now ks) (now work) (now words) ⌝ }
+    ensures { λ r. ⌜ AllDone (picture w h (now (px .entry))) (now (ks .entry)) (now (work .entry)) (now (words .entry)) r (now (work .exit)) (now (words .exit)) ⌝ }
+{
+    let mut s = Written { words: 0, lines: 0 };
+    let mut j: usize = 0;
+    while j < ks.len() {
+        let k = ks[j];
+        s = level_lines(px, w, h, k, work, words, s);
+        j += 1;
+    }
+    s
+}

@@ -1,7 +1,7 @@
 -- One cell as five booleans: its corners high or low, and one saddle bit. Assumes nothing.
--- Definitions: `back` the opposite heading; `Five` the corners by place and the saddle bit; `c0` to `c3` the corners from the entry; `enters g q` a line may enter q with heading g; `leaveBy g q` the heading
---   out; `firstEnd`, `secondEnd` the ends of the side g; `cutSide g q` it is crossed; `vertical g` S or N, so that the side g is horizontal; `headingSide g q` the heading at which the side is crossed;
---   `same` two headings are equal; `allF`, `allH` a test holds of all cells, of all headings.
+-- Definitions: `back` the opposite heading; `Five` the corners by place and the saddle bit; `c0` to `c3` the corners from the entry; `enters g q` a line may enter q with heading g; `leaveBy g q`
+--   the heading out; `firstEnd`, `secondEnd` the ends of the side g; `cutSide g q` it is crossed; `vertical g` S or N, so that the side g is horizontal; `headingSide g q` the heading at which the
+--   side is crossed; `same` two headings are equal; `allF`, `allH` a test holds of all cells, of all headings.
 -- Main laws: `eachF`, `eachH` what is computed for all holds of each; `same→≡`, `same-self`.
 use mathlib.Core.Path.{_≡_, refl}
 use mathlib.Core.Bool.{Bool, true, false, not, _&&_}

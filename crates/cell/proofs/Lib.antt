@@ -1,3 +1,6 @@
 pub mod Five
 pub mod Rule
 pub mod Quarter
+pub mod Signed
+pub mod Saddle
+pub mod Steps

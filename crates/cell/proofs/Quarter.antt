@@ -1,11 +1,9 @@
 -- The rule does not depend on the entry from which a cell is seen: a quarter turn of the cell turns every step with it. Assumes nothing.
 -- Definitions: `quarter q` the cell q seen with its left side on top; `Turned P t Q u` the cell u of Q is the cell t of P, turned left by a quarter.
--- Main laws: `turn-left` a turn commutes with a left turn; `quarter-enters`, `quarter-leave` the rule on five booleans; `turned-corners`, `turned-leave` the rule on samples; `saddle-round` the saddle's test
---   from opposite entries.
+-- Main laws: `turn-left` a turn commutes with a left turn; `quarter-enters`, `quarter-leave` the rule on five booleans; `turned-corners`, `turned-leave` the rule on samples.
 use mathlib.Core.Path.{_≡_, refl, sym, ap, _∙_}
 use mathlib.Core.Bool.{Bool, true, false}
-use Prim.Native.Nat.{ℕ, _+_, _*_}
-use native.Mathlib.Omega.{arith}
+use Prim.Native.Nat.{ℕ, _+_}
 use lib.Dec.{ltb}
 use Rattle.matte.specs.Picture.{Picture, at}
 use Rattle.edgel.specs.declared.Heading.{Heading}
@@ -61,11 +59,3 @@ unfolding leave
 turned-leave P Q t u T k g =
     ap (λ (q : Corners). turn (ltb k (q .p1)) (ltb k (q .p2)) (saddle k q) (left g)) (sym (turned-corners P Q t u T g))
     ∙ turn-left (ltb k (corners P g t .p1)) (ltb k (corners P g t .p2)) (saddle k (corners P g t)) g
-
--- both entries of a saddle see the same two sums and the same two products
-pub saddle-round : (k a b c d : ℕ) → saddle k (record { p0 = a; p1 = b; p2 = c; p3 = d }) ≡ saddle k (record { p0 = c; p1 = d; p2 = a; p3 = b })
-unfolding saddle
-saddle-round k a b c d =
-    let x : 2 * (a * c) + (2 * k + 1) * (b + d) ≡ 2 * (c * a) + (2 * k + 1) * (d + b) = omega arith in
-    let y : 2 * (b * d) + (2 * k + 1) * (a + c) ≡ 2 * (d * b) + (2 * k + 1) * (c + a) = omega arith in
-    ap (λ (z : ℕ). ltb z (2 * (b * d) + (2 * k + 1) * (a + c))) x ∙ ap (λ (z : ℕ). ltb (2 * (c * a) + (2 * k + 1) * (d + b)) z) y

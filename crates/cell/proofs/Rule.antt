@@ -1,14 +1,14 @@
 -- The turn rule in one cell: everything here is finite and computed. Assumes nothing.
 -- Definitions: `Sides` a mark on each of the four sides, `side` one of them.
--- Main laws: `leave-cut`, `leave-heading` a line leaves by a crossed side, heading out; `enter-cut`, `enter-heading` it enters by one; `leave-once` two entries that leave by one side are the same; `leave-onto`
---   every crossed side that a line can leave by is left by some entry; `leave-straight` a line that keeps off horizontal sides goes straight on; `four` a mark that each pass through the cell keeps is on
---   an even number of sides.
+-- Main laws: `leave-cut`, `leave-heading` a line leaves by a crossed side, heading out; `enter-cut`, `enter-heading` it enters by one; `leave-once` two entries that leave by one side are the same;
+--   `leave-onto` every crossed side that a line can leave by is left by some entry; `leave-straight` a line that keeps off horizontal sides goes straight on; `four` a mark that each pass through
+--   the cell keeps is on an even number of sides.
 use mathlib.Core.Path.{_≡_, refl, sym, ap, _∙_}
 use mathlib.Core.Bool.{Bool, true, false, not, _&&_, _||_}
 use mathlib.Core.Logic.{⊎-elim}
 use borrow.Author.Tests.{not-true}
 use Rattle.tally.specs.Tally.{differ}
-use Rattle.tally.proofs.Test.{no, and-1, and-2, both, implies, mp, all1, each1, or-cases, differ-self}
+use Rattle.tally.proofs.Test.{and-1, and-2, both, implies, mp, all1, each1, or-cases, differ-self}
 use Rattle.edgel.specs.declared.Heading.{Heading}
 use Rattle.edgel.specs.declared.Heading.the-variants.{South, East, North, West}
 use Rattle.cell.proofs.Five.{Five, back, enters, leaveBy, cutSide, headingSide, vertical, same, same→≡, same-self, allF, eachF, allH, eachH}
@@ -112,7 +112,6 @@ eachS p e m =
 
 four-all : (q : Five) (m : Sides) → fourB q m ≡ true
 four-all q m = eachS (λ r. fourB q r) (eachF (λ z. allS (λ r. fourB z r)) refl q) m
-
 
 keeps : (q : Five) (m : Sides) (g : Heading) → (cutSide g q ≡ false → side g m ≡ false) → (enters g q ≡ true → side (leaveBy g q) m ≡ side (back g) m) → kept q m g ≡ true
 keeps q m g off on = both (keeps-off (cutSide g q) (side g m) off) (keeps-on (enters g q) (side (back g) m) (side (leaveBy g q) m) on)

@@ -1,8 +1,8 @@
 -- Which numbers stand in an orbit, as a test. Assumes nothing.
 -- Definitions: `on f n c d` d stands in the orbit of c.
 -- Main laws: `on-reach`, `reach-on` exactly the reached ones; `count-on` each stands there once; `on-self`, `on-sym`, `on-same`, `on-next` being on one orbit is an equivalence that the map keeps; `on-ok`.
-use mathlib.Core.Path.{_≡_, refl, sym, ap, _∙_}
-use mathlib.Core.Bool.{Bool, true, false}
+use mathlib.Core.Path.{_≡_, sym, _∙_}
+use mathlib.Core.Bool.{Bool, true}
 use Prim.Native.Nat.{ℕ, zero, suc, _<_}
 use native.Mathlib.Nat.{zero-add}
 use native.Mathlib.Omega.{arith}

@@ -12,7 +12,7 @@ use Prim.Native.Nat.{ℕ, zero, suc, _+_, _-_, _≤_, _<_}
 use native.Mathlib.Nat.{zero-add}
 use native.Mathlib.Omega.{arith}
 use lib.Dec.{eqb}
-use lib.ListN.{length, getD}
+use lib.ListN.{length}
 use borrow.Author.Tests.{eqb-true, eqb-false, eq-eqb, ne-eqb}
 use Rattle.tally.specs.Tally.{count}
 use Rattle.tally.proofs.Test.{by-test, no}
@@ -199,4 +199,3 @@ module _ {f : ℕ → ℕ} {ok : ℕ → Bool} {n : ℕ} (K : Closed f ok n) whe
 
   pub reach-back : (c d : ℕ) → ok c ≡ true → Reach f c d → Reach f d c
   reach-back c d h r = subst (λ (z : ℕ). Reach f z c) (r .comes) (steps-back (r .steps) c h)
-

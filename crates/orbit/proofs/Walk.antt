@@ -1,23 +1,23 @@
 -- A walk along an orbit, one number after the other: where it stands and where it stops. Assumes nothing.
 -- Definitions: `Walk f n a i c` the i-th number of the orbit of a is c.
--- Main laws: `orbit-at` the orbit's numbers are the iterates; `orbit-head` the first is where it began; `orbit-next` each is the image of the one before; `orbit-last` after the last comes the first;
---   `walk-begin`, `walk-go`, `walk-stop` the moves of a walk: it goes on while the image is not the start, and then the whole orbit has been seen; `walk-ok`, `walk-take` what has been seen, one more at the end.
+-- Main laws: `orbit-at` the orbit's numbers are the iterates; `orbit-head` the first is where it began; `orbit-next` each is the image of the one before; `orbit-last` after the last comes the
+--   first; `walk-begin`, `walk-go`, `walk-stop` the moves of a walk: it goes on while the image is not the start, and then the whole orbit has been seen; `walk-ok`, `walk-take` what has been seen,
+--   one more at the end.
 use mathlib.Core.Path.{_≡_, refl, sym, ap, _∙_}
-use mathlib.Core.Bool.{Bool, true, false}
-use mathlib.Core.List.{List, [], _∷_, _++_}
+use mathlib.Core.Bool.{Bool, true}
+use mathlib.Core.List.{[], _∷_, _++_}
 use mathlib.Core.Logic.{_≢_}
-use Prim.Native.Nat.{ℕ, zero, suc, _+_, _-_, _≤_, _<_}
+use Prim.Native.Nat.{ℕ, zero, suc, _+_, _-_, _<_}
 use native.Mathlib.Numerals.{add-one}
 use native.Mathlib.Omega.{arith}
 use lib.Dec.{eqb}
 use lib.ListN.{length, getD, take}
 use lib.Seq.{take-suc}
 use borrow.Author.Tests.{eqb-true, eqb-false}
-use Rattle.tally.specs.Tally.{count}
 use Rattle.tally.proofs.Test.{by-test}
 use Rattle.orbit.specs.Orbit.{orbit}
 use Rattle.orbit.proofs.Pigeon.{iter}
-use Rattle.orbit.proofs.Orbit.{Closed, iter-shift, orbit-stop, orbit-go, orbit-period, orbit-within, ok-iter}
+use Rattle.orbit.proofs.Orbit.{Closed, iter-shift, orbit-period, orbit-within, ok-iter}
 
 pub orbit-at : (f : ℕ → ℕ) (a n c i : ℕ) → i < length (orbit f a n c) → getD (orbit f a n c) i 0 ≡ iter f i c
 unfolding orbit

@@ -6,19 +6,19 @@
 use mathlib.Core.Path.{_≡_, refl, sym, ap, _∙_}
 use mathlib.Core.Bool.{Bool, true, false, not}
 use mathlib.Core.List.{List, [], _∷_}
-use Prim.Native.Nat.{ℕ, suc, _+_, _*_, _≤_, _<_}
+use Prim.Native.Nat.{ℕ, suc, _+_, _*_, _<_}
 use native.Mathlib.Omega.{arith}
 use Rattle.tally.specs.Tally.{one, differ, odd, count, tally, flat}
-use Rattle.tally.proofs.Test.{twice, differ-false, differ-comm}
+use Rattle.tally.proofs.Test.{twice, differ-false}
 use Rattle.tally.proofs.Count.{tally-append}
 use Rattle.tally.proofs.Parity.{odd-plus, odd-one}
-use Rattle.matte.specs.Picture.{Picture, size, high}
+use Rattle.matte.specs.Picture.{Picture, high}
 use Rattle.edgel.specs.Edgel.{across, down}
 use Rattle.edgel.specs.Beside.{westOf, oddWest, oddNorth}
 use Rattle.outline.specs.Line.{cutAt, line, lines}
 use Rattle.outline.proofs.Border.{Border, frame}
 use Rattle.outline.proofs.Paper.{bit}
-use Rattle.outline.proofs.Parity.{byRow, row-cut}
+use Rattle.outline.proofs.Parity.{row-cut}
 use Rattle.outline.proofs.Beside.{odd-west}
 use Rattle.outline.proofs.Whole.{holds, each-once, line-east, line-south, line-column}
 use Rattle.outline.proofs.Lines.{IsLine}

@@ -1,12 +1,12 @@
 -- Counting a list's codes beside a sample: left of it on its row, and above it in its column. Assumes nothing.
 -- Definitions: none of its own.
--- Main laws: `tally-west`, `tally-north` the codes of a list left of a sample and above it, as sums along row and column; `odd-west`, `odd-north` for a list that holds each marked code once their parity is
---   that of the marks.
+-- Main laws: `tally-west`, `tally-north` the codes of a list left of a sample and above it, as sums along row and column; `odd-west`, `odd-north` for a list that holds each marked code once their
+--   parity is that of the marks.
 use mathlib.Core.Path.{_≡_, refl, sym, ap, _∙_}
-use mathlib.Core.Bool.{Bool, true, false, not, _&&_}
+use mathlib.Core.Bool.{Bool, true, not, _&&_}
 use mathlib.Core.List.{List, [], _∷_}
 use mathlib.Core.Logic.{_≢_}
-use Prim.Native.Nat.{ℕ, zero, suc, _+_, _*_, _/_, _%_, _≤_, _<_}
+use Prim.Native.Nat.{ℕ, _+_, _*_, _/_, _%_, _≤_, _<_}
 use native.Mathlib.Nat.{div-add-mod'}
 use native.Mathlib.Omega.{arith}
 use lib.Dec.{eqb, ltb}

@@ -1,9 +1,9 @@
 -- A picture with a constant border, as the laws want it and as the test decides it. Assumes nothing.
 -- Definitions: `Border P` all border samples have the value of sample 0.
--- Main laws: `border-fits`, `fits-border` the test passes exactly with such a border; `border-from` the border from four plain facts, two about rows and two about columns; `frame` at every level the border
---   is high or low as a whole.
-use mathlib.Core.Path.{_≡_, refl, sym, ap, _∙_}
-use mathlib.Core.Bool.{Bool, true, false, not, _||_}
+-- Main laws: `border-fits`, `fits-border` the test passes exactly with such a border; `border-from` the border from four plain facts, two about rows and two about columns; `frame` at every level
+--   the border is high or low as a whole.
+use mathlib.Core.Path.{_≡_, sym, ap, _∙_}
+use mathlib.Core.Bool.{true, not, _||_}
 use mathlib.Core.Logic.{⊎-elim}
 use Prim.Native.Nat.{ℕ, suc, _+_, _-_, _*_, _/_, _%_, _≤_, _<_}
 use native.Mathlib.Nat.{div-add-mod', mul-le-mul-right, mod-lt}
@@ -11,7 +11,6 @@ use native.Mathlib.Omega.{arith}
 use lib.Dec.{eqb, ltb}
 use lib.Arith.{digits-div}
 use borrow.Author.Tests.{ltb-true, ltb-false, eqb-true, eq-eqb}
-use Rattle.tally.specs.Tally.{every}
 use Rattle.tally.proofs.Test.{by-test, mp, or-1, or-2, or-cases}
 use Rattle.tally.proofs.Every.{every-at, every-from}
 use Rattle.matte.specs.Picture.{Picture, size, at, high, onBorder, borderFits}

@@ -1,13 +1,13 @@
 -- Marks kept in work bytes, one for each place. Assumes nothing.
--- Definitions: `marked t bytes d` the byte of d's place passes t; `mark v bytes c` stores v there where c is horizontal; `markAll v bytes l` for a whole line. With v that passes t a stored byte is a mark:
---   not 0 and 1, or equal to k + 1 and k + 1, or equal to 0 and 0, as the code likes.
--- Main laws: `mark-length`, `mark-all-length`, `mark-all-append` one more code; `mark-one`, `mark-all` afterwards a horizontal d is marked if it was, or stands in the list; `mark-take` marking along a walk;
---   `mark-past` the bytes past the picture stay.
+-- Definitions: `marked t bytes d` the byte of d's place passes t; `mark v bytes c` stores v there where c is horizontal; `markAll v bytes l` for a whole line. With v that passes t a stored byte is
+--   a mark: not 0 and 1, or equal to k + 1 and k + 1, or equal to 0 and 0, as the code likes.
+-- Main laws: `mark-length`, `mark-all-length`, `mark-all-append` one more code; `mark-one`, `mark-all` afterwards a horizontal d is marked if it was, or stands in the list; `mark-take` marking
+--   along a walk; `mark-past` the bytes past the picture stay.
 use mathlib.Core.Path.{_≡_, refl, sym, ap, _∙_}
 use mathlib.Core.Bool.{Bool, true, false, _||_, cond}
 use mathlib.Core.List.{List, [], _∷_, _++_}
 use mathlib.Core.Logic.{_≢_}
-use Prim.Native.Nat.{ℕ, suc, _+_, _*_, _/_, _%_, _≤_, _<_}
+use Prim.Native.Nat.{ℕ, _+_, _*_, _/_, _%_, _<_}
 use native.Mathlib.Nat.{zero-add}
 use native.Mathlib.Omega.{arith}
 use lib.Dec.{eqb, ltb}

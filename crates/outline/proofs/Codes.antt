@@ -1,14 +1,15 @@
 -- Places and codes of a picture, given as high or low at each place. Assumes nothing.
 -- Definitions: `Cell w h t` t is the top left place of a cell; `Frame H w h v` the border is v.
--- Main laws: `col-is`, `row-in`, `right-in` columns and rows of places; `heading-flat`, `heading-tall`, `cut-flat`, `cut-tall` heading and crossing of a horizontal and a vertical code; `flat-is`, `tall-is` a
---   code from its first end; `flat-out` a cell's side is horizontal where its heading is vertical; `into-out`, `out-inj` cells and their sides; `vertical-heading`; `cut-bound` crossed codes are below 2 w h.
+-- Main laws: `col-is`, `row-in`, `right-in` columns and rows of places; `heading-flat`, `heading-tall`, `cut-flat`, `cut-tall` heading and crossing of a horizontal and a vertical code; `flat-is`,
+--   `tall-is` a code from its first end; `flat-out` a cell's side is horizontal where its heading is vertical; `into-out`, `out-inj` cells and their sides; `vertical-heading`; `cut-bound` crossed
+--   codes are below 2 w h.
 use mathlib.Core.Path.{_≡_, refl, sym, ap, _∙_}
 use mathlib.Core.Bool.{Bool, true, false, _&&_}
 use mathlib.Core.Logic.{_≢_}
 use Prim.Native.Nat.{ℕ, zero, suc, _+_, _-_, _*_, _/_, _%_, _≤_, _<_}
 use native.Mathlib.Nat.{div-add-mod', mul-le-mul-right, zero-mul}
 use native.Mathlib.Omega.{arith}
-use lib.Dec.{eqb, ltb}
+use lib.Dec.{ltb}
 use lib.Arith.{digits-mod, digits-lt}
 use borrow.Author.Tests.{ltb-true, ltb-false, eqb-true, eqb-false, eq-eqb, ne-eqb}
 use Rattle.tally.specs.Tally.{differ}

@@ -1,10 +1,10 @@
 -- Following over high or low places (H) and one saddle bit a cell (S): how a crossed code enters a cell and where it goes on. Assumes nothing.
 -- Definitions: `five` a cell's corners and bit; `nextBy` the next crossing; `Entered c` the cell that c enters, and with which heading.
--- Main laws: `edge-cut`, `edge-heading` the sides of a cell as codes; `enter-goes` where an entry goes on; `entered` with a constant border every crossed code enters a cell; `heads`, `goes`, `goes-heading`
---   its heading, the next code and the next heading.
+-- Main laws: `edge-cut`, `edge-heading` the sides of a cell as codes; `enter-goes` where an entry goes on; `entered` with a constant border every crossed code enters a cell; `heads`, `goes`,
+--   `goes-heading` its heading, the next code and the next heading.
 use mathlib.Core.Path.{_≡_, refl, sym, ap, _∙_, subst}
 use mathlib.Core.Bool.{Bool, true, false, not, _&&_}
-use Prim.Native.Nat.{ℕ, zero, suc, _+_, _-_, _*_, _/_, _%_, _≤_, _<_}
+use Prim.Native.Nat.{ℕ, _+_, _-_, _*_, _/_, _%_, _≤_, _<_}
 use native.Mathlib.Nat.{add-mod-right, mod-eq-sub-mod, mod-eq-of-lt, mod-lt, div-add-mod'}
 use native.Mathlib.Omega.{arith}
 use lib.Dec.{eqb, ltb}

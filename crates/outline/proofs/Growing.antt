@@ -1,11 +1,10 @@
 -- The list while it grows: the lines of the places below i, and their words. Assumes nothing.
 -- Definitions: `linesTo P k i` the lines whose leads stand at places below i; `wordsTo L P k i` their words.
 -- Main laws: `lines-none`, `words-none` at the start; `words-line`, `words-skip` one place on; `lines-whole`, `words-whole` at the end.
-use mathlib.Core.Path.{_≡_, refl, sym, ap, _∙_}
-use mathlib.Core.Bool.{Bool, true, false}
+use mathlib.Core.Path.{_≡_, refl, ap, _∙_}
+use mathlib.Core.Bool.{true, false}
 use mathlib.Core.List.{List, [], _∷_, _++_, append-nil}
-use Prim.Native.Nat.{ℕ, zero, suc, _+_, _*_}
-use native.Mathlib.Nat.{zero-add}
+use Prim.Native.Nat.{ℕ, suc, _+_, _*_}
 use native.Mathlib.Omega.{arith}
 use Rattle.tally.specs.Tally.{pick}
 use Rattle.tally.proofs.Pick.{pick-snoc}

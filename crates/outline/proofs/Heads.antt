@@ -3,13 +3,12 @@
 -- Main laws: `row-even` a mark that following keeps is on an even number of horizontal codes of each row; `line-row-even` so is a line; `two` a line through a horizontal code has at least two of them;
 --   `lines-half` twice the number of lines is at most the number of horizontal crossings; `heads-total` these are as many as the crossed horizontal codes.
 use mathlib.Core.Path.{_≡_, refl, sym, ap, _∙_}
-use mathlib.Core.Bool.{Bool, true, false, cond, _&&_}
-use mathlib.Core.List.{List}
+use mathlib.Core.Bool.{Bool, true, false, cond}
 use mathlib.Core.Logic.{_≢_}
-use Prim.Native.Nat.{ℕ, zero, suc, _+_, _-_, _*_, _/_, _%_, _≤_, _<_}
+use Prim.Native.Nat.{ℕ, suc, _+_, _-_, _*_, _/_, _%_, _≤_, _<_}
 use native.Mathlib.Nat.{add-mod-right}
 use native.Mathlib.Omega.{arith}
-use lib.Dec.{eqb, ltb}
+use lib.Dec.{ltb}
 use lib.Arith.{digits-mod}
 use lib.ListN.{length}
 use borrow.Author.Tests.{ltb-true, lt-ltb, eqb-true, eqb-false, eq-eqb}
@@ -21,7 +20,7 @@ use Rattle.tally.proofs.Pick.{pick-two}
 use Rattle.tally.proofs.Parity.{flips-none}
 use Rattle.orbit.proofs.On.{on, on-self}
 use Rattle.matte.specs.Picture.{Picture, size, high}
-use Rattle.edgel.specs.Edgel.{horizontal, down, cut}
+use Rattle.edgel.specs.Edgel.{horizontal, down}
 use Rattle.edgel.specs.Beside.{westOf, oddWest}
 use Rattle.outline.specs.Line.{cutAt, line, isLead, lines}
 use Rattle.outline.proofs.Codes.{Frame, cut-flat, cut-tall, row-in}

@@ -1,15 +1,16 @@
 -- Level lists that ascend. Assumes nothing.
--- Main laws: `level-below` a listed level is below the largest sample; `level-once` it is listed once; `levels-ascend` the list ascends strictly; `not-listed` a level below the first possible one is not listed.
-use mathlib.Core.Path.{_≡_, refl, sym, ap, _∙_}
-use mathlib.Core.Bool.{Bool, true, false, _&&_}
+-- Main laws: `level-below` a listed level is below the largest sample; `level-once` it is listed once; `levels-ascend` the list ascends strictly; `not-listed` a level below the first possible one
+--   is not listed.
+use mathlib.Core.Path.{_≡_}
+use mathlib.Core.Bool.{true, false}
 use mathlib.Core.List.{List, [], _∷_}
 use Prim.Native.Nat.{ℕ, zero, suc, _+_, _≤_, _<_}
 use native.Mathlib.Nat.{zero-add}
 use native.Mathlib.Omega.{arith}
 use lib.Dec.{eqb, ltb, leb}
 use lib.ListN.{length, getD}
-use borrow.Author.Tests.{ltb-true, ltb-false, leb-true, eqb-true, eq-eqb, ne-eqb}
-use Rattle.tally.specs.Tally.{one, count}
+use borrow.Author.Tests.{ltb-true, ltb-false, leb-true, eqb-true}
+use Rattle.tally.specs.Tally.{count}
 use Rattle.tally.proofs.Test.{by-test, and-1, and-2}
 use Rattle.matte.specs.Layout.{Layout}
 use Rattle.matte.specs.Picture.{ascend, levelsFit}

@@ -15,4 +15,7 @@ pub mod Levels
 pub mod Words
 pub mod Growing
 pub mod Listed
+pub mod Room
+pub mod Counting
 pub mod Stepped
+pub mod Witness

@@ -3,18 +3,16 @@
 -- Main laws: `line-at` every listed line is one; `line-of` every lead has its line there; `leads-ascend` their leads ascend strictly; for each line `first-is` its first crossing is the lead, `lead-flat`,
 --   `lead-least` that is its least horizontal code, `line-step` each crossing is the next of the one before, `line-closes` the next of the last is the lead, so the fuel never runs out, `line-once` no
 --   crossing comes twice, `line-crossed` all are crossed edgels.
-use mathlib.Core.Path.{_≡_, refl, sym, ap, _∙_, subst}
-use mathlib.Core.Bool.{Bool, true, false}
+use mathlib.Core.Path.{_≡_, sym, ap, _∙_, subst}
+use mathlib.Core.Bool.{true}
 use mathlib.Core.List.{List, []}
-use Prim.Native.Nat.{ℕ, suc, _+_, _-_, _*_, _/_, _%_, _≤_, _<_}
+use Prim.Native.Nat.{ℕ, suc, _-_, _*_, _/_, _≤_, _<_}
 use native.Mathlib.Omega.{arith}
-use lib.Dec.{eqb, ltb}
 use lib.ListN.{length, getD}
-use borrow.Author.Tests.{lt-ltb, eqb-true}
-use Rattle.tally.specs.Tally.{one, count, pick}
+use borrow.Author.Tests.{lt-ltb}
+use Rattle.tally.specs.Tally.{one, count}
 use Rattle.tally.proofs.Test.{one-le}
 use Rattle.tally.proofs.Order.{pick-at, pick-next, pick-has}
-use Rattle.orbit.specs.Orbit.{orbit, leads}
 use Rattle.orbit.proofs.On.{on}
 use Rattle.orbit.proofs.Orbit.{orbit-within}
 use Rattle.orbit.proofs.Partition.{leads-head, leads-low}

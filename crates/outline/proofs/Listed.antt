@@ -1,22 +1,22 @@
 -- The whole list of words over all levels. Assumes nothing.
 -- Definitions: `Fits L P` the layout has room for the picture's codes and for all levels.
--- Main laws: `listed-length` the list has as many words as crossed edgels at all levels, so that this can be counted before anything is followed; `listed-flags` as many flags as lines; `listed-append`,
---   `listed-more` level after level; `tally-listed` a level's words among all words are those of its own lines; `listed-once` the word of a crossed edgel and a listed level stands there once;
---   `word-cut` every word is of a listed level and of an edgel that it crosses.
+-- Main laws: `fits-eight` bytes have room for every picture; `listed-length` the list has as many words as crossed edgels at all levels, so that this can be counted before anything is followed;
+--   `listed-flags` as many flags as lines; `listed-append`, `listed-more` level after level; `tally-listed` a level's words among all words are those of its own lines; `listed-once` the word of a
+--   crossed edgel and a listed level stands there once; `word-cut` every word is of a listed level and of an edgel that it crosses.
 use mathlib.Core.Path.{_≡_, refl, sym, ap, _∙_, subst}
-use mathlib.Core.Bool.{Bool, true, false, _&&_}
+use mathlib.Core.Bool.{Bool, true, false}
 use mathlib.Core.List.{List, [], _∷_, _++_, append-assoc, append-nil}
-use Prim.Native.Nat.{ℕ, zero, suc, _+_, _*_, _≤_, _<_}
-use native.Mathlib.Nat.{zero-mul, one-mul}
+use Prim.Native.Nat.{ℕ, _+_, _*_, _≤_, _<_}
+use native.Mathlib.Nat.{zero-mul, one-mul, mul-le-mul}
 use native.Mathlib.Omega.{arith}
-use lib.Dec.{eqb, ltb}
+use lib.Dec.{eqb, ltb, leb}
 use lib.ListN.{length, getD, length-append}
-use borrow.Author.Tests.{ltb-true, ltb-false, eqb-true, eqb-false, eq-eqb, ne-eqb}
+use borrow.Author.Tests.{ltb-true, ltb-false, leb-true, eqb-true, eqb-false, eq-eqb, ne-eqb}
 use Rattle.tally.specs.Tally.{one, sum, count, tally, flat, total}
-use Rattle.tally.proofs.Test.{by-test, one-pos}
+use Rattle.tally.proofs.Test.{by-test, and-2, one-pos}
 use Rattle.tally.proofs.Count.{tally-append, tally-eq, tally-has}
-use Rattle.matte.specs.Layout.{Layout}
-use Rattle.matte.specs.Picture.{Picture, size, levelsFit}
+use Rattle.matte.specs.Layout.{Layout, eight}
+use Rattle.matte.specs.Picture.{Picture, size, sideFits, levelsFit}
 use Rattle.edgel.specs.Word.{codeOf, levelOf, flagged}
 use Rattle.outline.specs.Line.{cutAt, lines}
 use Rattle.outline.specs.List.{levelWords, listed}
@@ -30,6 +30,14 @@ use Rattle.outline.proofs.Words.{Narrow, level-length, flags-level, ofL
 pub record Fits (L : Layout) (P : Picture) : Type 0 where
   pub room : 2 * size P ≤ L .codes
   pub tops : L .most ≤ L .levels
+
+-- bytes have room for every picture of sides up to 2,048
+pub fits-eight : (P : Picture) → sideFits (P .w) ≡ true → sideFits (P .h) ≡ true → Fits eight P
+fits-eight P a b =
+    let u : P .w ≤ 2048 = leb-true (P .w) 2048 (and-2 (leb 2 (P .w)) _ a) in
+    let v : P .h ≤ 2048 = leb-true (P .h) 2048 (and-2 (leb 2 (P .h)) _ b) in
+    let m : P .w * P .h ≤ 2048 * 2048 = mul-le-mul u v in
+    record { room = omega arith; tops = omega arith }
 
 module _ (L : Layout) (P : Picture) where
   pub listed-append : (ks js : List ℕ) → listed L P (ks ++ js) ≡ listed L P ks ++ listed L P js

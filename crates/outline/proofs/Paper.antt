@@ -1,12 +1,12 @@
 -- The paper's rule of following, on samples and a level, is following over high places with one saddle bit a cell. Assumes nothing.
 -- Definitions: `bit` the saddle bit of a cell.
--- Main laws: `saddle-ns`, `saddle-ew` the saddle's test is the same from opposite entries; `leave-is`, `next-is` the paper's rule is the abstract one on every crossed code; `closedAt`, `headedAt` so the laws
---   of orbits hold of `next`; `kept-along` a mark that `next` keeps.
+-- Main laws: `enteredAt`, `entered-at`, `right-low`, `left-high` the cell that a crossing enters, its heading there and the corners beside it; `saddle-ns`, `saddle-ew` the saddle's test is the same
+--   from opposite entries; `leave-is`, `next-is` the paper's rule is the abstract one on every crossed code; `closedAt`, `headedAt` so the laws of orbits hold of `next`; `kept-along` a mark that
+--   `next` keeps.
 use mathlib.Core.Path.{_≡_, refl, sym, ap, _∙_}
 use mathlib.Core.Bool.{Bool, true, false, not, cond}
 use mathlib.Core.List.{List}
 use Prim.Native.Nat.{ℕ, _+_, _*_}
-use native.Mathlib.Omega.{arith}
 use lib.Dec.{ltb}
 use borrow.Author.Tests.{not-true}
 use Rattle.tally.specs.Tally.{count}
@@ -21,7 +21,8 @@ use Rattle.edgel.specs.declared.Heading.the-variants.{South, East, North, West}
 use Rattle.edgel.specs.Edgel.{horizontal}
 use Rattle.cell.specs.Turn.{saddle, turn, out, into, corners, leave, next}
 use Rattle.cell.proofs.Five.{enters, leaveBy}
-use Rattle.cell.proofs.Quarter.{saddle-round}
+use Rattle.cell.proofs.Saddle.{saddle-round}
+use Rattle.cell.proofs.Steps.{At}
 use Rattle.outline.specs.Line.{cutAt}
 use Rattle.outline.proofs.Codes.{into-out}
 use Rattle.outline.proofs.Entered.{five, nextBy, Entered, entered, heads, goes}
@@ -69,6 +70,26 @@ module _ (P : Picture) (k : ℕ) where
       ∙ ap (λ (z : ℕ). out (P .w) (leave P k (E .g) z) z) (ap (into (P .w) (E .g)) (E .code) ∙ into-out (P .w) (E .g) (E .t))
       ∙ ap (λ (z : Heading). out (P .w) z (E .t)) (leave-is (E .g) (E .t) (E .enter))
       ∙ sym (goes (high P k) bit (P .w) (P .h) c E)
+
+-- entered, the right-hand corner is low and the left-hand corner high
+pub right-low : (P : Picture) (k : ℕ) (g : Heading) (t : ℕ) → enters g (five (high P k) (bit P k) (P .w) t) ≡ true → ltb k (corners P g t .p0) ≡ false
+right-low P k South t e = not-true (high P k t) (and-1 _ _ e)
+right-low P k East t e = not-true (high P k (t + P .w)) (and-1 _ _ e)
+right-low P k North t e = not-true (high P k (t + P .w + 1)) (and-1 _ _ e)
+right-low P k West t e = not-true (high P k (t + 1)) (and-1 _ _ e)
+
+pub left-high : (P : Picture) (k : ℕ) (g : Heading) (t : ℕ) → enters g (five (high P k) (bit P k) (P .w) t) ≡ true → ltb k (corners P g t .p3) ≡ true
+left-high P k South t e = and-2 (not (high P k t)) _ e
+left-high P k East t e = and-2 (not (high P k (t + P .w))) _ e
+left-high P k North t e = and-2 (not (high P k (t + P .w + 1))) _ e
+left-high P k West t e = and-2 (not (high P k (t + 1))) _ e
+
+pub entered-at : (P : Picture) (k c : ℕ) (E : Entered (high P k) (bit P k) (P .w) (P .h) c) → At P k c (E .g) (E .t)
+entered-at P k c E =
+    record {
+      heading = heads (high P k) (bit P k) (P .w) (P .h) c E;
+      cell = ap (into (P .w) (E .g)) (E .code) ∙ into-out (P .w) (E .g) (E .t);
+    }
 
 module _ (P : Picture) (B : Border P) (k : ℕ) where
   -- the cell that a crossing enters, and its heading there

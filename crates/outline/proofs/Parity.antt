@@ -1,7 +1,7 @@
 -- Marks that following keeps, counted along a row or along a column: the odd or even of both is the same. Assumes nothing.
 -- Definitions: `byRow`, `byCol` the parity of the marks left of a sample on its row, and above it in its column.
--- Main laws: `in-row`, `cell-at` places and cells by column and row; `off-top`, `off-left` nothing is marked along the border; `step-east`, `step-south` neighbours differ exactly if a mark stands between them;
---   `row-col` the row's parity is the column's; `row-cut` of all crossed codes it says whether a sample is high, against the border.
+-- Main laws: `in-row`, `cell-at` places and cells by column and row; `off-top`, `off-left` nothing is marked along the border; `step-east`, `step-south` neighbours differ exactly if a mark stands
+--   between them; `row-col` the row's parity is the column's; `row-cut` of all crossed codes it says whether a sample is high, against the border.
 use mathlib.Core.Path.{_≡_, refl, sym, ap, _∙_}
 use mathlib.Core.Bool.{Bool, true, false, not, _&&_}
 use Prim.Native.Nat.{ℕ, zero, suc, _+_, _*_, _%_, _<_}
@@ -42,7 +42,7 @@ cell-at w h x y a b =
     record { col = rw e (omega arith); row = omega (arith, in-row w h x (suc y) c b) }
 
 module _ (H S : ℕ → Bool) (w h : ℕ) (v : Bool) (F : Frame H w h v) where
-  -- a mark of cut codes is off along the top row and the left column
+  -- a mark of crossed codes is off along the top row and the left column
   off-top : (M : ℕ → Bool) → Kept H S w h M → (x : ℕ) → suc x < w → M (across w x 0) ≡ false
   off-top M k x a =
       by-test (M (across w x 0))

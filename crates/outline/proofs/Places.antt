@@ -1,13 +1,12 @@
 -- The scan by places with its marks in work bytes: what a loop over the places of a picture keeps, at one level. Assumes nothing.
 -- Definitions: `Scanned P B k i m` the places below i have been scanned: a crossed horizontal code is marked by m exactly if the lead of its line is below 2 i.
--- Main laws: `marks-begin` before the first place; `place-tell` a crossed place leads a line exactly if it is not marked; `place-skip`, `place-flat` past a place that leads none; `place-line` past one whose
---   line has been marked in the bytes; `marks-done` at the end all are marked; `line-low` the codes of a line have their places in the bytes.
-use mathlib.Core.Path.{_≡_, refl, sym, ap, _∙_}
+-- Main laws: `marks-begin` before the first place; `place-tell` a crossed place leads a line exactly if it is not marked; `place-skip`, `place-flat` past a place that leads none; `place-line` past
+--   one whose line has been marked in the bytes; `marks-done` at the end all are marked; `line-low` the codes of a line have their places in the bytes.
+use mathlib.Core.Path.{_≡_, refl}
 use mathlib.Core.Bool.{Bool, true, false, not, _&&_}
 use mathlib.Core.List.{List}
 use Prim.Native.Nat.{ℕ, suc, _*_, _%_, _≤_, _<_}
 use native.Mathlib.Omega.{arith}
-use lib.Dec.{ltb}
 use lib.ListN.{length}
 use borrow.Author.Tests.{lt-ltb, eq-eqb, ne-eqb}
 use Rattle.tally.specs.Tally.{count}

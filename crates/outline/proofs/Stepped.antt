@@ -1,23 +1,21 @@
 -- Painting back: turned over once for each listed word left of a sample, the border gives the stepped picture. Assumes nothing.
 -- Definitions: none of its own.
--- Main laws: `turned-back` at one listed level, the border turned over by the words of that level left of a sample is high exactly if the sample is; `paint-back` counted over the levels, that is the number of
---   listed levels the sample is high at; `all-levels` with every level listed that number is the sample itself.
-use mathlib.Core.Path.{_≡_, refl, sym, ap, _∙_}
-use mathlib.Core.Bool.{Bool, true, false}
-use mathlib.Core.List.{List, [], _∷_}
+-- Main laws: `turned-back` at one listed level, the border turned over by the words of that level left of a sample is high exactly if the sample is; `paint-back` counted over the levels, that is
+--   the number of listed levels the sample is high at; `all-levels` with every level listed that number is the sample itself.
+use mathlib.Core.Path.{_≡_, refl, ap, _∙_}
+use mathlib.Core.Bool.{Bool, true}
+use mathlib.Core.List.{List}
 use Prim.Native.Nat.{ℕ, zero, suc, _+_, _*_, _≤_, _<_}
-use native.Mathlib.Nat.{zero-add}
 use native.Mathlib.Omega.{arith}
 use lib.Dec.{ltb}
 use borrow.Author.Tests.{ltb-true, ltb-false, lt-ltb}
-use Rattle.tally.specs.Tally.{one, differ, odd, sum, count, tally, flat, build}
+use Rattle.tally.specs.Tally.{one, differ, odd, sum, count, tally, build}
 use Rattle.tally.proofs.Test.{by-test, twice}
 use Rattle.tally.proofs.Count.{tally-same}
 use Rattle.tally.proofs.Build.{build-tally}
 use Rattle.matte.specs.Layout.{Layout}
 use Rattle.matte.specs.Picture.{Picture, at, levelsFit}
-use Rattle.edgel.specs.Beside.{westOf, oddWest}
-use Rattle.outline.specs.Line.{lines}
+use Rattle.edgel.specs.Beside.{westOf}
 use Rattle.outline.specs.List.{listed}
 use Rattle.outline.proofs.Border.{Border}
 use Rattle.outline.proofs.Above.{west-all}

@@ -1,17 +1,17 @@
 -- The lines of a picture with a constant border, at one level: every crossed edgel once, and neighbours by each line. Assumes nothing.
 -- Definitions: `holds l c` the list holds the code; `onLine P k c d` d stands on the line through c.
--- Main laws: `lines-listing` the walk over places lists the orbits of all leads; `each-once` every crossed edgel is on exactly one line, once; `words-total` how many crossings there are; `scanned` a scan that
---   marks gives these lines; `line-count` a line holds each of its codes once; `west-row`, `north-col` counting along row and column by its marks; `line-east`, `line-south` neighbours are on different
---   sides exactly if the line passes between them; `line-column` the row's count and the column's agree.
-use mathlib.Core.Path.{_≡_, refl, sym, ap, _∙_}
+-- Main laws: `lines-listing` the walk over places lists the orbits of all leads; `each-once` every crossed edgel is on exactly one line, once; `words-total` how many crossings there are; `scanned`
+--   a scan that marks gives these lines; `line-count` a line holds each of its codes once; `west-row`, `north-col` counting along row and column by its marks; `line-east`, `line-south` neighbours
+--   are on different sides exactly if the line passes between them; `line-column` the row's count and the column's agree.
+use mathlib.Core.Path.{_≡_, sym, ap, _∙_}
 use mathlib.Core.Bool.{Bool, true, false}
 use mathlib.Core.List.{List}
-use Prim.Native.Nat.{ℕ, suc, _+_, _*_, _%_, _≤_, _<_}
+use Prim.Native.Nat.{ℕ, suc, _*_, _%_, _≤_, _<_}
 use native.Mathlib.Omega.{arith}
 use lib.Dec.{ltb}
 use lib.ListN.{length}
 use borrow.Author.Tests.{ne-eqb}
-use Rattle.tally.specs.Tally.{one, differ, sum, count, flat, pick}
+use Rattle.tally.specs.Tally.{one, differ, sum, count, flat}
 use Rattle.tally.proofs.Pick.{pick-even}
 use Rattle.orbit.specs.Orbit.{orbit, leads}
 use Rattle.orbit.proofs.Orbit.{Closed}

@@ -5,10 +5,10 @@
 use mathlib.Core.Path.{_≡_, refl, sym, ap, _∙_}
 use mathlib.Core.Bool.{Bool, true, false, _&&_}
 use mathlib.Core.List.{List, [], _∷_, _++_, append-assoc}
-use Prim.Native.Nat.{ℕ, zero, suc, _+_, _*_, _/_, _%_, _≤_, _<_}
-use native.Mathlib.Nat.{zero-mul, zero-add}
+use Prim.Native.Nat.{ℕ, zero, suc, _+_, _*_, _/_, _%_, _<_}
+use native.Mathlib.Nat.{zero-mul}
 use native.Mathlib.Omega.{arith}
-use lib.Dec.{eqb, leb}
+use lib.Dec.{eqb}
 use lib.Arith.{digits-div, digits-mod, digits-lt}
 use lib.ListN.{length, getD, length-append}
 use borrow.Author.Tests.{le-leb, lt-leb, eq-eqb, ne-eqb}
@@ -42,7 +42,7 @@ module _ (L : Layout) where
   pub encode-length : (k : ℕ) (b : Bool) (l : List ℕ) → length (encode L k b l) ≡ length l
   unfolding encode
   encode-length k b [] = refl
-  encode-length k b (c ∷ l) = ap suc (encode-length k false l)
+  encode-length k b (c ∷ l) = ap suc (encode-length k _ l)
 
   pub encode-plain : (k : ℕ) (l : List ℕ) (i : ℕ) → i < length l → getD (encode L k false l) i 0 ≡ word L (getD l i 0) k false
   unfolding encode

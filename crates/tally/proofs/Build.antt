@@ -1,16 +1,15 @@
 -- The list f i, f (i + 1), .. of a function's values. Assumes nothing.
--- Main laws: `build-length`; `build-at` its element j is f (i + j); `build-more` one more at the end; `build-cut` in two parts; `build-same`; `build-tally` how many pass, as a sum; `is-build` a list by its
---   elements.
+-- Main laws: `build-length`; `build-at` its element j is f (i + j); `build-more` one more at the end; `build-cut` in two parts; `build-same`; `build-tally` how many pass, as a sum; `is-build` a
+--   list by its elements.
 use mathlib.Core.Path.{_≡_, refl, sym, ap, _∙_}
 use mathlib.Core.Bool.{Bool}
 use mathlib.Core.List.{List, [], _∷_, _++_}
 use Prim.Native.Nat.{ℕ, zero, suc, _+_, _≤_, _<_}
-use native.Mathlib.Nat.{zero-add, add-zero, add-suc, suc-add}
+use native.Mathlib.Nat.{zero-add, add-zero, suc-add}
 use native.Mathlib.Omega.{arith}
-use lib.ListN.{length, getD, take, drop}
+use lib.ListN.{length, getD}
 use lib.Seq.{ext-getD}
 use Rattle.tally.specs.Tally.{one, sum, build, tally}
-use Rattle.tally.proofs.Sum.{sum-cut}
 use Rattle.tally.proofs.Count.{tally-append}
 
 pub build-length : (f : ℕ → ℕ) (i n : ℕ) → length (build f i n) ≡ n

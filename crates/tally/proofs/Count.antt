@@ -1,6 +1,6 @@
 -- Counting in lists: how often a number stands there, how many pass a test. Assumes nothing.
--- Main laws: `count-self`, `count-later`, `count-at` an element of a list counts; `count-append`, `tally-append`; `tally-same`, `tally-le`, `tally-has`, `tally-none`, `tally-eq`; `length-counts`, `tally-counts` a length and a tally as sums of counts;
---   `tally-all` a test that all pass gives the length; `tally-length` a tally is at most the length.
+-- Main laws: `count-self`, `count-later`, `count-at` an element of a list counts; `count-append`, `tally-append`; `tally-same`, `tally-le`, `tally-has`, `tally-none`, `tally-eq`; `length-counts`,
+--   `tally-counts` a length and a tally as sums of counts; `tally-all` a test that all pass gives the length; `tally-length` a tally is at most the length; `tally-total` it is a sum over the list.
 use mathlib.Core.Path.{_≡_, refl, sym, ap, _∙_}
 use mathlib.Core.Bool.{Bool, true, false, cond}
 use mathlib.Core.List.{List, [], _∷_, _++_}
@@ -10,7 +10,7 @@ use native.Mathlib.Omega.{arith}
 use lib.Dec.{eqb}
 use lib.ListN.{length, getD}
 use borrow.Author.Tests.{eqb-true, eq-eqb}
-use Rattle.tally.specs.Tally.{one, sum, count, tally}
+use Rattle.tally.specs.Tally.{one, sum, count, tally, total}
 use Rattle.tally.proofs.Test.{by-test, one-le}
 use Rattle.tally.proofs.Sum.{sum-same, sum-zero, sum-plus, sum-on}
 
@@ -77,6 +77,11 @@ tally-le p q (c ∷ l) e =
     by-test (p c)
     (λ t. rw (t, e c t) (omega arith))
     (λ t. rw t (omega arith))
+
+pub tally-total : (p : ℕ → Bool) (l : List ℕ) → total (λ x. one (p x)) l ≡ tally p l
+unfolding tally total
+tally-total p [] = refl
+tally-total p (c ∷ l) = rw (tally-total p l)
 
 pub tally-length : (p : ℕ → Bool) (l : List ℕ) → tally p l ≤ length l
 unfolding tally

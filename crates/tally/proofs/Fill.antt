@@ -1,14 +1,14 @@
 -- A list that is filled from the front, one store a turn, with the elements of another. Assumes nothing.
--- Main laws: `fill` one store; `fill-start` before the first; `fill-end` after the last; `fill-length`; `fill-done` what has been stored stands there; `fill-snoc` the store as one more at the end of what is
---   in; `map-at` an element of a mapped list.
+-- Main laws: `fill` one store; `fill-start` before the first; `fill-end` after the last; `fill-length`; `fill-done` what has been stored stands there; `fill-snoc` the store as one more at the end
+--   of what is in; `map-at` an element of a mapped list.
 use mathlib.Core.Path.{_≡_, refl, sym, ap, _∙_}
 use mathlib.Core.List.{List, [], _∷_, _++_, map, append-assoc}
 use Prim.Native.Nat.{ℕ, zero, suc, _+_, _<_, _≤_}
 use native.Mathlib.Nat.{le-of-suc-le-suc, not-suc-le-zero}
 use native.Mathlib.Numerals.{add-one}
 use native.Mathlib.Omega.{arith}
-use lib.ListN.{length, take, drop, set, getD, length-append, length-take, length-drop, List·getD-append}
-use lib.Seq.{take-length, length-take-le, drop-cons, set-append-seam, getD-take, set-at}
+use lib.ListN.{length, take, drop, set, getD, length-append, length-drop, List·getD-append}
+use lib.Seq.{take-length, length-take-le, drop-cons, set-append-seam, getD-take}
 
 store : (f d : List ℕ) (i : ℕ) → i < length f → i < length d → set (take i f ++ drop i d) i (getD f i 0) ≡ take (suc i) f ++ drop (suc i) d
 store [] d i h k = absurd (not-suc-le-zero h)

@@ -1,8 +1,8 @@
 -- Where the first stands that passes a test: in a list, among the numbers from i on, and the least of all. Assumes nothing.
 -- Definitions: `Least p m` the least number that passes p, at most m.
--- Main laws: `first-le`, `first-before` none before it passes, `first-passes` it passes if it is inside, `first-is` where it is from these facts; `from-ge`, `from-le`, `from-before`, `from-passes`, `from-is`
---   the same among numbers; `least-or`, `least`.
-use mathlib.Core.Path.{_≡_, refl, sym, ap, _∙_}
+-- Main laws: `first-le`, `first-before` none before it passes, `first-passes` it passes if it is inside, `first-is` where it is from these facts; `from-ge`, `from-le`, `from-before`, `from-passes`,
+--   `from-is` the same among numbers; `least-or`, `least`.
+use mathlib.Core.Path.{_≡_}
 use mathlib.Core.Bool.{Bool, true, false}
 use mathlib.Core.List.{List, [], _∷_}
 use mathlib.Core.Logic.{_⊎_, ⊎-elim, inl, inr}

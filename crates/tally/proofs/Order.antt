@@ -1,16 +1,16 @@
 -- The order of a walk: which list stands where. Assumes nothing.
 -- Definitions: `Here p g i m n` the n-th list of the walk is g j, for a j that passes; `Next p g i m n` so are the n-th and the one after it, for larger and larger j.
 -- Main laws: `pick-at` every list of the walk is such; `pick-next` the walk goes upwards; `pick-has` every number that passes has its list there.
-use mathlib.Core.Path.{_≡_, refl, sym, ap, _∙_, subst}
+use mathlib.Core.Path.{_≡_, ap, _∙_}
 use mathlib.Core.Bool.{Bool, true, false}
-use mathlib.Core.List.{List, [], _∷_}
+use mathlib.Core.List.{List, []}
 use Prim.Native.Nat.{ℕ, zero, suc, _+_, _≤_, _<_}
 use native.Mathlib.Omega.{arith}
 use lib.Dec.{eqb}
 use lib.ListN.{length, getD}
 use borrow.Author.Tests.{eqb-true, eqb-false}
 use Rattle.tally.specs.Tally.{pick}
-use Rattle.tally.proofs.Test.{by-test, no}
+use Rattle.tally.proofs.Test.{by-test}
 use Rattle.tally.proofs.Pick.{pick-yes, pick-no}
 
 pub record Here (p : ℕ → Bool) (g : ℕ → List ℕ) (i m n : ℕ) : Type 0 where

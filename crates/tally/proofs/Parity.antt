@@ -1,14 +1,15 @@
 -- Odd and even: of sums, and of how many numbers below x pass a test. Assumes nothing.
 -- Definitions: `flips p x` an odd number of the i below x pass p.
--- Main laws: `odd-plus` of a sum; `odd-one`; `odd-sum` the odd or even of a sum of marks is `flips`; `flips-same`, `flips-none`; `even-half` an even number is twice its half.
+-- Main laws: `odd-plus` of a sum; `odd-one`; `odd-sum` the odd or even of a sum of marks is `flips`; `flips-same`, `flips-none`, `flips-cut`; `even-half` an even number is twice its half.
 use mathlib.Core.Path.{_≡_, refl, sym, ap, _∙_}
 use mathlib.Core.Bool.{Bool, true, false, not}
 use mathlib.Core.Logic.{_≢_}
 use Prim.Native.Nat.{ℕ, zero, suc, _+_, _*_, _/_, _%_, _<_}
+use native.Mathlib.Nat.{add-zero, add-suc}
 use native.Mathlib.Omega.{arith}
 use borrow.Author.Tests.{eqb-true, eqb-false, eq-eqb, ne-eqb}
 use Rattle.tally.specs.Tally.{one, differ, odd, sum}
-use Rattle.tally.proofs.Test.{by-test}
+use Rattle.tally.proofs.Test.{by-test, differ-assoc}
 
 pub odd-plus : (a b : ℕ) → odd (a + b) ≡ differ (odd a) (odd b)
 odd-plus a b =
@@ -60,3 +61,13 @@ odd-sum p (suc x) =
     odd-plus (sum (λ i. one (p i)) x) (one (p x))
     ∙ ap (λ (z : Bool). differ z (odd (one (p x)))) (odd-sum p x)
     ∙ ap (λ (z : Bool). differ (flips p x) z) (odd-one (p x))
+
+pub flips-cut : (p : ℕ → Bool) (m n : ℕ) → flips p (m + n) ≡ differ (flips p m) (flips (λ i. p (m + i)) n)
+unfolding flips
+flips-cut p m zero = rw (add-zero m) (sym (plain (flips p m)))
+  where
+    plain : (b : Bool) → differ b false ≡ b
+    plain true = refl
+    plain false = refl
+flips-cut p m (suc n) =
+    rw (add-suc m n, flips-cut p m n) (differ-assoc (flips p m) (flips (λ i. p (m + i)) n) (p (m + n)))

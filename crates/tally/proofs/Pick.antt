@@ -3,17 +3,17 @@
 -- Main laws: `pick-yes`, `pick-no` one step at the front; `pick-none`, `pick-one` how often a number stands in the lists together; `pick-more` one step at the end, as lists joined, and `pick-snoc` as a
 --   list of lists; `pick-even` a walk over all numbers of which no odd one passes is the walk over their halves; `pick-two` lists that each have two that pass; `pick-length` how many are listed;
 --   `flat-append`.
-use mathlib.Core.Path.{_≡_, refl, sym, ap, _∙_, subst}
+use mathlib.Core.Path.{_≡_, refl, sym, ap, _∙_}
 use mathlib.Core.Bool.{Bool, true, false}
 use mathlib.Core.List.{List, [], _∷_, _++_, append-assoc, append-nil}
 use mathlib.Core.Logic.{_≢_}
 use Prim.Native.Nat.{ℕ, zero, suc, _+_, _*_, _≤_, _<_}
-use native.Mathlib.Nat.{zero-add, add-zero, add-suc}
+use native.Mathlib.Nat.{add-zero}
 use native.Mathlib.Omega.{arith}
 use lib.Dec.{eqb}
 use lib.ListN.{length}
 use borrow.Author.Tests.{eqb-true, eqb-false}
-use Rattle.tally.specs.Tally.{one, sum, count, tally, flat, pick}
+use Rattle.tally.specs.Tally.{count, tally, flat, pick}
 use Rattle.tally.proofs.Test.{by-test}
 use Rattle.tally.proofs.Count.{count-append, tally-append}
 

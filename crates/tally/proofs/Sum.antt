@@ -1,11 +1,11 @@
 -- Sums over the numbers below n. Assumes nothing.
--- Main laws: `sum-same` equal terms, equal sums; `sum-zero`, `sum-none`; `sum-plus`, `sum-cut` a sum in two parts; `sum-off`, `sum-on` the sum of one number's mark; `sum-le`; `sum-even` over pairs;
---   `total-same`, `total-append`, `total-plus` the same for the sum over a list.
+-- Main laws: `sum-same` equal terms, equal sums; `sum-next` one term more; `sum-zero`, `sum-none`; `sum-plus`, `sum-cut` a sum in two parts; `sum-off`, `sum-on` the sum of one number's mark; `sum-le`; `sum-even` over pairs;
+--   `total-same`, `total-append`, `total-plus`, `total-le`, `total-times` the same for the sum over a list; `total-sum` sums over a list and over numbers change places.
 use mathlib.Core.Path.{_≡_, refl, sym, ap, _∙_}
-use mathlib.Core.Bool.{Bool, true, false, cond}
 use mathlib.Core.List.{List, [], _∷_, _++_}
 use Prim.Native.Nat.{ℕ, zero, suc, _+_, _*_, _≤_, _<_}
 use native.Mathlib.Nat.{zero-add, add-zero, add-suc}
+use native.Mathlib.Numerals.{add-one}
 use native.Mathlib.Omega.{arith}
 use lib.Dec.{eqb}
 use borrow.Author.Tests.{eqb-true, eqb-false, eq-eqb, ne-eqb}
@@ -16,6 +16,10 @@ pub sum-same : (g k : ℕ → ℕ) (n : ℕ) → ((i : ℕ) → i < n → g i �
 unfolding sum
 sum-same g k zero q = refl
 sum-same g k (suc n) q = rw (sum-same g k n (λ i h. q i (omega arith)), q n (omega arith))
+
+pub sum-next : (g : ℕ → ℕ) (n : ℕ) → sum g (n + 1) ≡ sum g n + g n
+unfolding sum
+sum-next g n = rw add-one
 
 pub sum-zero : (n : ℕ) → sum (λ i. 0) n ≡ 0
 unfolding sum
@@ -79,3 +83,18 @@ pub total-plus : (g k : ℕ → ℕ) (l : List ℕ) → total (λ i. g i + k i) 
 unfolding total
 total-plus g k [] = refl
 total-plus g k (x ∷ l) = let r : total (λ i. g i + k i) l ≡ total g l + total k l = total-plus g k l in omega arith
+
+pub total-sum : (f : ℕ → ℕ → ℕ) (n : ℕ) (l : List ℕ) → total (λ k. sum (f k) n) l ≡ sum (λ c. total (λ k. f k c) l) n
+unfolding total
+total-sum f n [] = sym (sum-zero n)
+total-sum f n (x ∷ l) = rw (total-sum f n l) (sym (sum-plus (f x) (λ c. total (λ k. f k c) l) n))
+
+pub total-le : (g k : ℕ → ℕ) (l : List ℕ) → ((x : ℕ) → g x ≤ k x) → total g l ≤ total k l
+unfolding total
+total-le g k [] q = omega arith
+total-le g k (x ∷ l) q = omega (arith, q x, total-le g k l q)
+
+pub total-times : (m : ℕ) (g : ℕ → ℕ) (l : List ℕ) → total (λ x. m * g x) l ≡ m * total g l
+unfolding total
+total-times m g [] = omega arith
+total-times m g (x ∷ l) = let r : total (λ x. m * g x) l ≡ m * total g l = total-times m g l in omega arith

@@ -1,7 +1,8 @@
 -- Booleans: cases on a test, connectives taken apart, `differ`, and truths over all booleans by computing. Assumes nothing.
 -- Definitions: `by-test` cases on a test, with its equation; `implies`; `all1` a test holds of both booleans.
--- Main laws: `no` a test is not both; `iff` tests that follow from each other are equal; `and-1`, `and-2`, `both` for &&; `or-true`, `or-false`, `or-1`, `or-2`, `or-cases` for ||; `mp` for `implies`;
---   `each1` what is computed for both booleans holds of each; `differ-self`, `differ-comm`, `differ-assoc`, `twice`, `chain`, `equal`, `differ-low`, `differ-high`, `differ-false`, `alike`; `one-le`, `one-pos`, `one-same`.
+-- Main laws: `no` a test is not both; `iff` tests that follow from each other are equal; `and-1`, `and-2`, `both` for &&; `or-true`, `or-false`, `or-1`, `or-2`, `or-cases` for ||; `mp` for
+--   `implies`; `each1` what is computed for both booleans holds of each; `differ-self`, `differ-comm`, `differ-assoc`, `twice`, `chain`, `equal`, `differ-low`, `differ-high`, `differ-false`,
+--   `alike`; `one-le`, `one-pos`, `one-same`.
 use mathlib.Core.Path.{_≡_, refl, sym, ap, _∙_}
 use mathlib.Core.Bool.{Bool, true, false, not, _&&_, _||_}
 use mathlib.Core.Logic.{_⊎_, inl, inr}

@@ -4,3 +4,4 @@ pub mod Flag
 pub mod Scanning
 pub mod Level
 pub mod All
+pub mod Counting

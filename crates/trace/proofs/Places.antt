@@ -1,8 +1,8 @@
 -- States and codes of horizontal crossings, and the bytes they mark. Assumes nothing.
--- Main laws: `double`, `lead-code` a horizontal crossing's code is that of a place exactly if it starts there; `lead-at` the state of a lead; `mark-flat`, `mark-tall` what a crossing marks; `area-most`, `some` a picture has at most
+-- Main laws: `unlike` the code's != of two tests is `differ`; `double`, `lead-code` a horizontal crossing's code is that of a place exactly if it starts there; `lead-at` the state of a lead; `mark-flat`, `mark-tall` what a crossing marks; `area-most`, `some` a picture has at most
 --   4,194,304 samples, and some.
 use mathlib.Core.Path.{_≡_, refl, sym, ap, _∙_}
-use mathlib.Core.Bool.{Bool, true, false, cond}
+use mathlib.Core.Bool.{Bool, true, false, not, Bool·beq, cond}
 use mathlib.Core.List.{List}
 use Prim.Native.Nat.{ℕ, _+_, _*_, _/_, _%_, _≤_, _<_}
 use native.Mathlib.Nat.{mul-le-mul}
@@ -10,6 +10,7 @@ use native.Mathlib.Omega.{arith}
 use lib.Dec.{eqb}
 use lib.ListN.{length, set}
 use borrow.Author.Tests.{eqb-true, eqb-false, eq-eqb, ne-eqb}
+use Rattle.tally.specs.Tally.{differ}
 use Rattle.tally.proofs.Test.{by-test, no}
 use Rattle.edgel.specs.declared.Heading.{Heading}
 use Rattle.edgel.specs.declared.Heading.the-variants.{South, East, North, West}
@@ -19,6 +20,12 @@ use Rattle.step.specs.Step.{codeOn, codeAt, stateAt}
 use Rattle.matte.specs.Picture.{Picture}
 use Rattle.outline.proofs.Bytes.{mark}
 use Rattle.trace.specs.Trace.{Ground}
+
+pub unlike : (x y : Bool) → not (Bool·beq x y) ≡ differ x y
+unlike true true = refl
+unlike true false = refl
+unlike false true = refl
+unlike false false = refl
 
 pub double : (i e : ℕ) → eqb (2 * i) (2 * e) ≡ eqb i e
 double i e =

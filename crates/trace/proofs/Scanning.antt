@@ -73,14 +73,14 @@ module _ (P : Picture) (G : Ground P) (k : ℕ) where
       ∙ ap (λ (z : ℕ). differ (high P k 0) (ltb k z)) (B .lefts (i + 1) l m)
       ∙ differ-self (high P k 0)
 
-  crossed-cut : (i : ℕ) → i + 1 < size P → differ (high P k i) (high P k (i + 1)) ≡ true → cutAt P k (2 * i) ≡ true
+  pub crossed-cut : (i : ℕ) → i + 1 < size P → differ (high P k i) (high P k (i + 1)) ≡ true → cutAt P k (2 * i) ≡ true
   crossed-cut i l e =
       let m : i % P .w < P .w = mod-lt i (omega (arith, G .sides .w-least)) in
       by-test (ltb (i % P .w + 1) (P .w))
       (λ t. cut-flat (high P k) (P .w) (P .h) i ∙ both (both t (lt-ltb i (size P) (omega arith))) e)
       (λ t. no e (row-end i l (omega (arith, ltb-false (i % P .w + 1) (P .w) t))))
 
-  cut-crossed : (i : ℕ) → cutAt P k (2 * i) ≡ true → (i % P .w + 1 < P .w) × (differ (high P k i) (high P k (i + 1)) ≡ true)
+  pub cut-crossed : (i : ℕ) → cutAt P k (2 * i) ≡ true → (i % P .w + 1 < P .w) × (differ (high P k i) (high P k (i + 1)) ≡ true)
   cut-crossed i o =
       let z = sym (cut-flat (high P k) (P .w) (P .h) i) ∙ o in
       (ltb-true _ _ (and-1 (ltb (i % P .w + 1) (P .w)) _ (and-1 _ _ z)), and-2 (ltb (i % P .w + 1) (P .w) && ltb i (size P)) _ z)

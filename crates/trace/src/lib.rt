@@ -1,4 +1,5 @@
 // Listing: all lines of all levels, in order, as words.
+mod count;
 mod line;
 mod scan;
 

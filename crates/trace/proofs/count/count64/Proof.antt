@@ -1,0 +1,86 @@
+-- `trace::count::count64` meets its contract. Assumes nothing.
+use mathlib.Core.Path.{_≡_, refl, sym, ap, _∙_}
+use Prim.Native.Nat.{ℕ, _+_, _-_, _*_, _≤_, _<_}
+use native.Mathlib.Omega.{arith}
+use lib.ListN.{length}
+use borrow.Author.Needs.{needs}
+use Rattle.tally.specs.Tally.{sum}
+use Rattle.tally.proofs.Sum.{sum-next}
+use Rattle.trace.specs.Count.{pairAt}
+use Rattle.trace.proofs.Counting.{pairs-most}
+use Rattle.trace.proofs.count.count64.Statement.{statement}
+use Rattle.trace.proofs.count.count64.Tie as tie
+
+abbrev Inv-loop : tie.InvT-loop
+Inv-loop px w k from n₀ i₀ n i = (i ≤ 64) × (n ≡ sum (λ j. pairAt px w k (from + j)) i)
+
+abbrev μ-loop : tie.MeasureT-loop
+μ-loop px w k from n₀ i₀ n i = 64 - i
+
+loop-holds : tie.Need-loop-holds Inv-loop μ-loop
+unfolding sum
+loop-holds c = (omega arith, refl)
+
+add-pair-of : tie.Need-add-pair-of Inv-loop μ-loop
+add-pair-of c = search needs
+
+shared-slice-read-pair-of : tie.Need-shared-slice-read-pair-of Inv-loop μ-loop
+shared-slice-read-pair-of c = search needs
+
+add-pair-of-2 : tie.Need-add-pair-of-2 Inv-loop μ-loop
+add-pair-of-2 c = search needs
+
+add-pair-of-3 : tie.Need-add-pair-of-3 Inv-loop μ-loop
+add-pair-of-3 c = search needs
+
+shared-slice-read-pair-of-2 : tie.Need-shared-slice-read-pair-of-2 Inv-loop μ-loop
+shared-slice-read-pair-of-2 c = search needs
+
+add-pair-of-4 : tie.Need-add-pair-of-4 Inv-loop μ-loop
+add-pair-of-4 c = search needs
+
+add-pair-of-5 : tie.Need-add-pair-of-5 Inv-loop μ-loop
+add-pair-of-5 c = search needs
+
+shared-slice-read-pair-of-3 : tie.Need-shared-slice-read-pair-of-3 Inv-loop μ-loop
+shared-slice-read-pair-of-3 c = search needs
+
+pair-of-requires : tie.Need-pair-of-requires Inv-loop μ-loop
+pair-of-requires c κs = tt
+
+add-n : tie.Need-add-n Inv-loop μ-loop
+add-n c = ?
+
+add-i : tie.Need-add-i Inv-loop μ-loop
+add-i c = search needs
+
+loop-less : tie.Need-loop-less Inv-loop μ-loop
+loop-less c = search needs
+
+loop-again : tie.Need-loop-again Inv-loop μ-loop
+loop-again c = ?
+
+returns : tie.Need-returns Inv-loop μ-loop
+returns c = ?
+
+pub count64-spec : {M : Type 1} → statement M
+count64-spec =
+    tie.close
+    (tie.spec
+    Inv-loop
+    μ-loop
+    loop-holds
+    add-pair-of
+    shared-slice-read-pair-of
+    add-pair-of-2
+    add-pair-of-3
+    shared-slice-read-pair-of-2
+    add-pair-of-4
+    add-pair-of-5
+    shared-slice-read-pair-of-3
+    pair-of-requires
+    add-n
+    add-i
+    loop-less
+    loop-again
+    returns)

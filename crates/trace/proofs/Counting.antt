@@ -1,5 +1,5 @@
 -- Counting crossed edgels place by place. Assumes nothing.
--- Main laws: `crossings-sum` the crossed edgels of a level are those that start above the last row, two a place; `pair-most`, `pairs-most` how many they can be; `levels-few` there are at most 255 levels.
+-- Main laws: `crossings-sum` the crossed edgels of a level are those that start above the last row, two a place; `pair-most`, `pairs-most`, `all-most` how many they can be; `row-fits` a row is within the picture; `levels-few` there are at most 255 levels.
 use mathlib.Core.Path.{_≡_, refl, sym, ap, _∙_}
 use mathlib.Core.Bool.{Bool, true, false, _&&_}
 use mathlib.Core.List.{List, [], _∷_}
@@ -74,10 +74,17 @@ module _ (P : Picture) (G : Ground P) (k : ℕ) where
 pub pair-most : (k a b c : ℕ) → pair k a b c ≤ 2
 pair-most k a b c = omega (arith, one-le (differ (ltb k a) (ltb k b)), one-le (differ (ltb k a) (ltb k c)))
 
-pub pairs-most : (px : List ℕ) (w k from n : ℕ) → sum (λ i. pairAt px w k (from + i)) n ≤ 2 * n
+sum-two : (g : ℕ → ℕ) → ((i : ℕ) → g i ≤ 2) → (n : ℕ) → sum g n ≤ 2 * n
 unfolding sum
-pairs-most px w k from zero = omega arith
-pairs-most px w k from (suc n) = omega (arith, pairs-most px w k from n, pair-most k (getD px (from + n) 0) (getD px (from + n + 1) 0) (getD px (from + n + w) 0))
+sum-two g q zero = omega arith
+sum-two g q (suc n) = omega (arith, sum-two g q n, q n)
+
+pub pairs-most : (px : List ℕ) (w k from n : ℕ) → sum (λ i. pairAt px w k (from + i)) n ≤ 2 * n
+pairs-most px w k from n =
+    sum-two (λ i. pairAt px w k (from + i)) (λ i. pair-most k (getD px (from + i) 0) (getD px (from + i + 1) 0) (getD px (from + i + w) 0)) n
+
+pub all-most : (px : List ℕ) (w k n : ℕ) → sum (pairAt px w k) n ≤ 2 * n
+all-most px w k n = sum-two (pairAt px w k) (λ i. pair-most k (getD px i 0) (getD px (i + 1) 0) (getD px (i + w) 0)) n
 
 few : (L : Layout) (low : ℕ) (ks : List ℕ) → low ≤ L .most → ascend L low ks ≡ true → low + length ks ≤ L .most
 unfolding ascend
@@ -90,3 +97,6 @@ few L low (k ∷ ks) h e =
 
 pub levels-few : (L : Layout) (ks : List ℕ) → levelsFit L ks ≡ true → length ks ≤ L .most
 levels-few L ks e = omega (arith, few L 0 ks (omega arith) e)
+
+pub row-fits : {P : Picture} → Ground P → P .w + P .w ≤ length (P .px)
+row-fits {P} G = omega (arith, G .whole, native.Mathlib.Nat.mul-le-mul-left (P .w) (G .sides .h-least))

@@ -49,7 +49,10 @@ pair-of-requires : tie.Need-pair-of-requires Inv-loop μ-loop
 pair-of-requires c κs = tt
 
 add-n : tie.Need-add-n Inv-loop μ-loop
-add-n c = ?
+add-n c =
+    let a = c .before .before .before .before .before .before .before .args in
+    let l = c .before .before .before .before .before .loop in
+    omega (arith, c .pair-of .ensures .1, l .inv .1, pairs-most (a .px .now) (a .w) (a .k) (a .from) (l .i), c .before .before .before .before .loop-test .taken)
 
 add-i : tie.Need-add-i Inv-loop μ-loop
 add-i c = search needs
@@ -58,10 +61,18 @@ loop-less : tie.Need-loop-less Inv-loop μ-loop
 loop-less c = search needs
 
 loop-again : tie.Need-loop-again Inv-loop μ-loop
-loop-again c = ?
+loop-again c =
+    let a = c .before .before .before .before .before .before .before .args in
+    let l = c .before .before .before .before .before .loop in
+    (omega arith, ap (λ (z : ℕ). z + c .pair-of .result) (l .inv .1) ∙ ap (λ (z : ℕ). sum (λ j. pairAt (a .px .now) (a .w) (a .k) (a .from + j)) (l .i) + z) (c .pair-of .ensures .0) ∙ sym (sum-next (λ j. pairAt (a .px .now) (a .w) (a .k) (a .from + j)) (l .i)))
 
 returns : tie.Need-returns Inv-loop μ-loop
-returns c = ?
+returns c =
+    let a = c .before .before .before .args in
+    let l = c .before .loop in
+    let e : l .i ≡ 64 = omega (arith, c .loop-test .left, l .inv .0) in
+    let r : l .n ≡ sum (λ j. pairAt (a .px .now) (a .w) (a .k) (a .from + j)) 64 = l .inv .1 ∙ ap (sum (λ j. pairAt (a .px .now) (a .w) (a .k) (a .from + j))) e in
+    (r, omega (arith, pairs-most (a .px .now) (a .w) (a .k) (a .from) 64))
 
 pub count64-spec : {M : Type 1} → statement M
 count64-spec =

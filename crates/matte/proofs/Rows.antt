@@ -1,12 +1,12 @@
 -- Going through the rows of a call's refusals. Assumes nothing.
--- Main laws: `given` a row that is given decides the verdict; `passed` one that is not is passed over; `unfit`, `fit` the same for a row that asks for a test to hold;
+-- Main laws: `given` a row that is given decides the verdict; `passed` one that is not is passed over; `unfit`, `fit` the same for a row that asks for a test to hold; `clean`, `clean-fit` where the verdict is 0 no row is given;
 --   `done-answer`, `refused-answer`, `done-after`, `refused-after` what a verdict makes of the answer and of lent memory.
 use mathlib.Core.Path.{_≡_, refl, sym, ap, _∙_}
 use mathlib.Core.Bool.{Bool, true, false, not, cond}
 use mathlib.Core.List.{List, [], _∷_}
 use Prim.Native.Nat.{ℕ}
 use lib.Dec.{eqb}
-use borrow.Author.Tests.{eq-eqb, ne-eqb}
+use borrow.Author.Tests.{eq-eqb, ne-eqb, not-false}
 use Rattle.matte.specs.declared.Answer.{Answer}
 use Rattle.matte.specs.declared.Verdict.{Verdict}
 use Rattle.matte.specs.Refusal.{Row, row, verdict, answer, afterwards}
@@ -22,6 +22,17 @@ unfit n b rs e = given (row n (not b)) rs (ap not e)
 
 pub fit : (n : ℕ) (b : Bool) (rs : List Row) → b ≡ true → verdict (row n (not b) ∷ rs) ≡ verdict rs
 fit n b rs e = passed (row n (not b)) rs (ap not e)
+
+-- no row of a call that is done is given
+pub clean : (r : Row) (rs : List Row) → (r .number ≡ 0 → ⊥) → verdict (r ∷ rs) .number ≡ 0 → (r .given ≡ false) × (verdict rs .number ≡ 0)
+clean r rs n e = go (r .given) e
+  where
+    go : (b : Bool) → cond b (record { number = r .number; place = r .place }) (verdict rs) .number ≡ 0 → (b ≡ false) × (verdict rs .number ≡ 0)
+    go true t = absurd (n t)
+    go false t = (refl, t)
+
+pub clean-fit : (n : ℕ) (b : Bool) (rs : List Row) → (n ≡ 0 → ⊥) → verdict (row n (not b) ∷ rs) .number ≡ 0 → (b ≡ true) × (verdict rs .number ≡ 0)
+clean-fit n b rs z e = let r = clean (row n (not b)) rs z e in (not-false b (r .0), r .1)
 
 module _ (v : Verdict) (words lines : ℕ) where
   pub done-answer : v .number ≡ 0 → answer v words lines ≡ record { number = 0; place = 0; words = words; lines = lines }

@@ -1,16 +1,18 @@
 -- What fitting sides and a fitting shape say. Assumes nothing.
--- Main laws: `sides-in` sides that pass the test are in range, `in-sides` and back; `shape-sides`, `shape-length` what a shape number of 0 says.
+-- Main laws: `sides-in` sides that pass the test are in range, `in-sides` and back; `shape-sides`, `shape-length` what a shape number of 0 says; `shape-first`, `shape-pass` the shape
+--   number among a call's rows; `shape-clean` where the verdict is 0, so is it.
 use mathlib.Core.Path.{_≡_, refl, sym, ap, _∙_}
 use mathlib.Core.Bool.{Bool, true, false, not, _&&_, cond}
-use mathlib.Core.List.{[], _∷_}
+use mathlib.Core.List.{List, [], _∷_}
 use Prim.Native.Nat.{ℕ, _*_, _≤_}
 use native.Mathlib.Omega.{arith}
 use lib.Dec.{eqb, leb}
 use lib.ListN.{length}
-use borrow.Author.Tests.{leb-true, le-leb, eqb-true, not-false}
+use borrow.Author.Tests.{leb-true, le-leb, eqb-true, eqb-false}
 use Rattle.tally.proofs.Test.{by-test, no, and-1, and-2, both}
 use Rattle.matte.specs.Picture.{Picture, sideFits, samplesFit}
-use Rattle.matte.specs.Refusal.{verdict, row}
+use Rattle.matte.specs.declared.Verdict.{Verdict}
+use Rattle.matte.specs.Refusal.{Row, verdict, row, sidesRow, samplesRow}
 use Rattle.refuse.specs.Shape.{Sides, shapeNumber}
 
 pub sides-in : (w h : ℕ) → (sideFits w && sideFits h) ≡ true → Sides w h
@@ -51,3 +53,28 @@ module _ (P : Picture) (e : shapeNumber P ≡ 0) where
 
   pub shape-length : length (P .px) ≡ P .w * P .h
   shape-length = eqb-true _ _ (numbers sidesB (samplesFit P) (sym (flat sidesB (samplesFit P)) ∙ e) .1)
+
+-- the first two rows of a call are decided by the shape number
+two-rows : (a b : Bool) (rs : List Row) → (verdict (row 1 (not a) ∷ row 2 (not b) ∷ []) .number ≡ 0 → ⊥)
+    → verdict (row 1 (not a) ∷ row 2 (not b) ∷ rs) ≡ record { number = verdict (row 1 (not a) ∷ row 2 (not b) ∷ []) .number; place = 0 }
+two-rows true true rs n = absurd (n refl)
+two-rows true false rs n = refl
+two-rows false b rs n = refl
+
+two-pass : (a b : Bool) (rs : List Row) → verdict (row 1 (not a) ∷ row 2 (not b) ∷ []) .number ≡ 0 → verdict (row 1 (not a) ∷ row 2 (not b) ∷ rs) ≡ verdict rs
+two-pass true true rs e = refl
+two-pass true false rs e = absurd (omega (arith, e))
+two-pass false b rs e = absurd (omega (arith, e))
+
+module _ (P : Picture) (rs : List Row) where
+  pub shape-first : (shapeNumber P ≡ 0 → ⊥) → verdict (sidesRow (P .w) (P .h) ∷ samplesRow P ∷ rs) ≡ record { number = shapeNumber P; place = 0 }
+  shape-first n = two-rows (sideFits (P .w) && sideFits (P .h)) (samplesFit P) rs n
+
+  pub shape-pass : shapeNumber P ≡ 0 → verdict (sidesRow (P .w) (P .h) ∷ samplesRow P ∷ rs) ≡ verdict rs
+  shape-pass e = two-pass (sideFits (P .w) && sideFits (P .h)) (samplesFit P) rs e
+
+  pub shape-clean : verdict (sidesRow (P .w) (P .h) ∷ samplesRow P ∷ rs) .number ≡ 0 → (shapeNumber P ≡ 0) × (verdict rs .number ≡ 0)
+  shape-clean e =
+      by-test (eqb (shapeNumber P) 0)
+      (λ t. (eqb-true (shapeNumber P) 0 t, sym (ap (λ (v : Verdict). v .number) (shape-pass (eqb-true (shapeNumber P) 0 t))) ∙ e))
+      (λ t. absurd (eqb-false (shapeNumber P) 0 t (sym (ap (λ (v : Verdict). v .number) (shape-first (eqb-false (shapeNumber P) 0 t))) ∙ e)))

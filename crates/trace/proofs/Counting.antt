@@ -1,20 +1,25 @@
 -- Counting crossed edgels place by place. Assumes nothing.
--- Main laws: `crossings-sum` the crossed edgels of a level are those that start above the last row, two a place; `pair-most`, `pairs-most`, `all-most` how many they can be; `row-fits` a row is within the picture; `levels-few` there are at most 255 levels.
+-- Main laws: `crossings-sum` the crossed edgels of a level are those that start above the last row, two a place; `pair-most`, `pairs-most`, `all-most` how many they can be; `row-fits` a row is within the picture; `levels-few` there are at most 255 levels;
+--   `counted-none`, `counted-more`, `counted-all` the sum over the levels is the length of the list.
 use mathlib.Core.Path.{_≡_, refl, sym, ap, _∙_}
 use mathlib.Core.Bool.{Bool, true, false, _&&_}
 use mathlib.Core.List.{List, [], _∷_}
 use Prim.Native.Nat.{ℕ, zero, suc, _+_, _-_, _*_, _/_, _%_, _≤_, _<_}
 use native.Mathlib.Nat.{mod-lt, add-zero, mul-le-mul}
+use native.Mathlib.Numerals.{add-one}
 use native.Mathlib.Omega.{arith}
 use lib.Dec.{ltb, leb}
-use lib.ListN.{length, getD}
+use lib.ListN.{length, getD, take}
+use lib.Seq.{take-suc, take-all}
 use borrow.Author.Tests.{ltb-true, ltb-false, lt-ltb, le-ltb, leb-true}
 use Rattle.tally.specs.Tally.{one, differ, sum, total}
 use Rattle.tally.proofs.Test.{by-test, no, and-1, and-2, both, one-le, differ-self}
-use Rattle.tally.proofs.Sum.{sum-same, sum-none, sum-cut, sum-even, sum-le}
-use Rattle.matte.specs.Layout.{Layout}
+use Rattle.tally.proofs.Sum.{sum-same, sum-none, sum-cut, sum-even, total-append}
+use Rattle.matte.specs.Layout.{Layout, eight}
 use Rattle.matte.specs.Picture.{Picture, size, high, ascend, levelsFit}
 use Rattle.outline.specs.Line.{cutAt}
+use Rattle.outline.specs.List.{listed}
+use Rattle.outline.proofs.Listed.{listed-length}
 use Rattle.outline.proofs.Border.{Border}
 use Rattle.outline.proofs.Codes.{cut-flat, cut-tall}
 use Rattle.trace.specs.Trace.{Ground, crossings}
@@ -100,3 +105,20 @@ levels-few L ks e = omega (arith, few L 0 ks (omega arith) e)
 
 pub row-fits : {P : Picture} → Ground P → P .w + P .w ≤ length (P .px)
 row-fits {P} G = omega (arith, G .whole, native.Mathlib.Nat.mul-le-mul-left (P .w) (G .sides .h-least))
+
+-- ---- over the levels
+module _ (P : Picture) (ks : List ℕ) where
+  pub counted-none : total (crossings P) (take 0 ks) ≡ 0
+  unfolding total
+  counted-none = refl
+
+  pub counted-more : (j : ℕ) → j < length ks → total (crossings P) (take (j + 1) ks) ≡ total (crossings P) (take j ks) + crossings P (getD ks j 0)
+  unfolding total
+  counted-more j h =
+      ap (total (crossings P)) (ap (λ (z : ℕ). take z ks) (add-one j) ∙ take-suc ks j 0 h)
+      ∙ total-append (crossings P) (take j ks) (getD ks j 0 ∷ [])
+      ∙ omega arith
+
+  pub counted-all : Ground P → (j : ℕ) → length ks ≤ j → total (crossings P) (take j ks) ≡ length (listed eight P ks)
+  unfolding crossings
+  counted-all G j h = ap (total (crossings P)) (take-all j ks h) ∙ sym (listed-length eight P (border-of P G) ks)

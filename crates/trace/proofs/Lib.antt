@@ -5,3 +5,5 @@ pub mod Scanning
 pub mod Level
 pub mod All
 pub mod Counting
+pub mod Refusals
+pub mod Zeros

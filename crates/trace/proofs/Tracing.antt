@@ -163,8 +163,7 @@ module _ (P : Picture) (G : Ground P) (k : ℕ) where
           unfolding line
           stop q =
               let z : suc (T .i) ≡ length (line P k a) = walk-stop K a o (T .i) (T .c) (T .walk) (sym next-code ∙ q) in
-              let y : suc (T .i) ≡ length F = z ∙ sym (encode-length L k false (line P k a)) in
-              (
+              let y : suc (T .i) ≡ length F = z ∙ sym (encode-length L k false (line P k a)) in (
                 omega (arith, T .done),
                 marked′ ∙ ap (markAll (k + 1) work₀) (ap (λ (m : ℕ). take m (line P k a)) z ∙ take-length (line P k a)),
                 told′ ∙ ap (paste words₀ from F) y ∙ ap (λ (l : List ℕ). take from words₀ ++ l ++ drop (from + length F) words₀) (take-length F),

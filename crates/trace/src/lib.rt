@@ -3,6 +3,14 @@ mod count;
 mod line;
 mod scan;
 
+use count::count_words;
+use matte::Answer;
+use matte::Verdict;
+use refuse::area;
+use refuse::border_fits;
+use refuse::levels_fit;
+use refuse::shape_number;
+use scan::all_levels;
 ghost use mathlib.Core.Path.{_≡_};
 ghost use mathlib.Core.List.{List, _++_};
 ghost use Prim.Native.Nat.{ℕ, _+_, _*_, _≤_, _<_};
@@ -12,7 +20,7 @@ ghost use Rattle.matte.specs.Picture.{picture};
 ghost use Rattle.outline.specs.List.{listVerdict, listAnswer, listWork, listWords};
 
 // Sets the first n bytes to 0.
-fn clear(work: &mut [u8], n: usize)
+pub fn clear(work: &mut [u8], n: usize)
     requires { ⌜ n ≤ length (now work) ⌝ }
     ensures { λ r. ⌜ now (work .exit) ≡ replicate n 0 ++ drop n (now (work .entry)) ⌝ }
 {
@@ -20,5 +28,86 @@ fn clear(work: &mut [u8], n: usize)
     while i < n {
         work[i] = 0;
         i += 1;
+    }
+}
+
+// The first of the refusals 1 to 6 that applies, by the lengths of the lent memory.
+pub fn list_verdict(
+    w: usize,
+    h: usize,
+    px: &[u8],
+    levels: &[u8],
+    work: &[u8],
+    words: &[u32],
+) -> Verdict
+    ensures { λ r. ⌜ r ≡ listVerdict eight (picture w h (now (px .entry))) (now (levels .entry)) (now (work .entry)) (now (words .entry)) ⌝ }
+{
+    let shape = shape_number(w, h, px);
+    if shape != 0 {
+        return Verdict {
+            number: shape,
+            place: 0,
+        };
+    }
+    if !levels_fit(levels) {
+        return Verdict {
+            number: 3,
+            place: 0,
+        };
+    }
+    if !border_fits(w, h, px) {
+        return Verdict {
+            number: 4,
+            place: 0,
+        };
+    }
+    if work.len() < px.len() {
+        return Verdict {
+            number: 5,
+            place: 0,
+        };
+    }
+    let needed = count_words(px, w, h, levels);
+    if words.len() < needed {
+        return Verdict {
+            number: 6,
+            place: needed,
+        };
+    }
+    Verdict {
+        number: 0,
+        place: 0,
+    }
+}
+
+// Lists every line of every level into the lent word places, or refuses and changes nothing.
+pub fn list(
+    w: usize,
+    h: usize,
+    px: &[u8],
+    levels: &[u8],
+    work: &mut [u8],
+    words: &mut [u32],
+) -> Answer
+    ensures { λ r. ⌜ (r ≡ listAnswer eight (picture w h (now (px .entry))) (now (levels .entry)) (now (work .entry)) (now (words .entry))) × (now (work .exit) ≡ listWork eight (picture w h (now (px .entry))) (now (levels .entry)) (now (work .entry)) (now (words .entry))) × (now (words .exit) ≡ listWords eight (picture w h (now (px .entry))) (now (levels .entry)) (now (work .entry)) (now (words .entry))) ⌝ }
+{
+    let v = list_verdict(w, h, px, levels, work, words);
+    if v.number != 0 {
+        return Answer {
+            number: v.number,
+            place: v.place,
+            words: 0,
+            lines: 0,
+        };
+    }
+    let n = area(w, h);
+    clear(work, n);
+    let s = all_levels(px, w, h, levels, work, words);
+    clear(work, n);
+    Answer {
+        number: 0,
+        place: 0,
+        words: s.words,
+        lines: s.lines,
     }
 }

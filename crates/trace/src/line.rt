@@ -65,7 +65,16 @@ fn lead_state(e: usize, high: bool) -> State
 }
 
 // Follows the line of the lead at the place e: its words go to the places from `from` on, none flagged yet. Returns where they end.
-fn follow(px: &[u8], w: usize, h: usize, k: u8, work: &mut [u8], words: &mut [u32], from: usize, e: usize) -> usize
+fn follow(
+    px: &[u8],
+    w: usize,
+    h: usize,
+    k: u8,
+    work: &mut [u8],
+    words: &mut [u32],
+    from: usize,
+    e: usize,
+) -> usize
     requires { ⌜ (Ground (picture w h (now px))) × (k < 255) × (length (now px) ≤ length (now work)) × (cutAt (picture w h (now px)) k (2 * e) ≡ true) × (from + length (line (picture w h (now px)) k (2 * e)) ≤ length (now words)) ⌝ }
     ensures { λ r. ⌜ (r ≡ from + length (line (picture w h (now (px .entry))) k (2 * e))) × (now (work .exit) ≡ markAll (k + 1) (now (work .entry)) (line (picture w h (now (px .entry))) k (2 * e))) × (now (words .exit) ≡ pasted (now (words .entry)) from (encode eight k false (line (picture w h (now (px .entry))) k (2 * e)))) ⌝ }
 {
@@ -84,7 +93,16 @@ fn follow(px: &[u8], w: usize, h: usize, k: u8, work: &mut [u8], words: &mut [u3
 }
 
 // The same with the first word flagged.
-pub fn trace_line(px: &[u8], w: usize, h: usize, k: u8, work: &mut [u8], words: &mut [u32], from: usize, e: usize) -> usize
+pub fn trace_line(
+    px: &[u8],
+    w: usize,
+    h: usize,
+    k: u8,
+    work: &mut [u8],
+    words: &mut [u32],
+    from: usize,
+    e: usize,
+) -> usize
     requires { ⌜ (Ground (picture w h (now px))) × (k < 255) × (length (now px) ≤ length (now work)) × (cutAt (picture w h (now px)) k (2 * e) ≡ true) × (from + length (line (picture w h (now px)) k (2 * e)) ≤ length (now words)) ⌝ }
     ensures { λ r. ⌜ (r ≡ from + length (line (picture w h (now (px .entry))) k (2 * e))) × (now (work .exit) ≡ markAll (k + 1) (now (work .entry)) (line (picture w h (now (px .entry))) k (2 * e))) × (now (words .exit) ≡ pasted (now (words .entry)) from (encode eight k true (line (picture w h (now (px .entry))) k (2 * e)))) ⌝ }
 {

@@ -46,7 +46,15 @@ fn search(px: &[u8], work: &[u8], k: u8, from: usize) -> usize
 }
 
 // All lines of level k, their words behind those that stand there already.
-fn level_lines(px: &[u8], w: usize, h: usize, k: u8, work: &mut [u8], words: &mut [u32], st: Written) -> Written
+fn level_lines(
+    px: &[u8],
+    w: usize,
+    h: usize,
+    k: u8,
+    work: &mut [u8],
+    words: &mut [u32],
+    st: Written,
+) -> Written
     requires { ⌜ LevelReady (picture w h (now px)) k (now work) (now words) st ⌝ }
     ensures { λ r. ⌜ LevelDone (picture w h (now (px .entry))) k (now (work .entry)) (now (words .entry)) st r (now (work .exit)) (now (words .exit)) ⌝ }
 {
@@ -57,14 +65,24 @@ fn level_lines(px: &[u8], w: usize, h: usize, k: u8, work: &mut [u8], words: &mu
         let from = s.words;
         let m = s.lines;
         let n = trace_line(px, w, h, k, work, words, from, p);
-        s = Written { words: n, lines: m + 1 };
+        s = Written {
+            words: n,
+            lines: m + 1,
+        };
         p = search(px, work, k, p + 1);
     }
     s
 }
 
 // All lines of all levels, from the first place on.
-pub fn all_levels(px: &[u8], w: usize, h: usize, ks: &[u8], work: &mut [u8], words: &mut [u32]) -> Written
+pub fn all_levels(
+    px: &[u8],
+    w: usize,
+    h: usize,
+    ks: &[u8],
+    work: &mut [u8],
+    words: &mut [u32],
+) -> Written
     requires { ⌜ AllReady (picture w h (now px)) (now ks) (now work) (now words) ⌝ }
     ensures { λ r. ⌜ AllDone (picture w h (now (px .entry))) (now (ks .entry)) (now (work .entry)) (now (words .entry)) r (now (work .exit)) (now (words .exit)) ⌝ }
 {

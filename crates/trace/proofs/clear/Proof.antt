@@ -31,8 +31,7 @@ loop-again : tie.Need-loop-again Inv-loop μ-loop
 loop-again c =
     let n = c .before .before .args .n in
     let i = c .before .loop .i in
-    let l : i < n = c .loop-test .taken in
-    (
+    let l : i < n = c .loop-test .taken in (
       omega arith,
       fill (replicate n 0) _ _ i 0 (rw (length-replicate {A = ℕ} n 0) l) (omega (arith, c .before .before .pre)) (c .before .loop .inv .1) (sym (getD-replicate n i 0 0 l)),
       simp length-set (c .before .loop .inv .2),

@@ -40,8 +40,7 @@ lead-state-requires c κs = tt
 
 loop-holds : tie.Need-loop-holds Inv-loop μ-loop
 loop-holds c =
-    let a = c .before .before .before .before .before .args in
-    (
+    let a = c .before .before .before .before .before .args in (
       refl,
       refl,
       λ G o. begin (picture (a .w) (a .h) (a .px .now)) G (a .k) eight (a .e) o (a .from) (a .work .now) (a .words .now) (c .lead-state .result) (c .lead-state .ensures (high (picture (a .w) (a .h) (a .px .now)) (a .k)) refl),
@@ -52,8 +51,7 @@ put-requires c κs =
     let z = c .before .before .before .before .before .before .before .before .before in
     let a = z .args in
     let l = c .before .before .before .loop in
-    let T = l .inv .2 (z .pre .0) (z .pre .3) in
-    (
+    let T = l .inv .2 (z .pre .0) (z .pre .3) in (
       omega (arith, T .done, in-line (picture (a .w) (a .h) (a .px .now)) (z .pre .0) (a .k) eight (a .e) (z .pre .3) (a .from) (a .work .now) (a .words .now) (z .pre .4) (l .n) (l .s) (l .work) (l .words) T, l .inv .1, z .pre .4),
       omega (arith, place-is (picture (a .w) (a .h) (a .px .now)) (z .pre .0) (a .k) eight (a .e) (z .pre .3) (a .from) (a .work .now) (a .words .now) (z .pre .4) (l .n) (l .s) (l .work) (l .words) T, z .pre .0 .whole, z .pre .2, l .inv .0),
       omega (arith, place-is (picture (a .w) (a .h) (a .px .now)) (z .pre .0) (a .k) eight (a .e) (z .pre .3) (a .from) (a .work .now) (a .words .now) (z .pre .4) (l .n) (l .s) (l .work) (l .words) T, area-most (z .pre .0), z .pre .0 .whole),
@@ -106,8 +104,7 @@ loop-again c =
     let z = c .before .before .before .before .before .before .before .before .before .before .before .before .before .before .before .before .before in
     let a = z .args in
     let l = c .before .before .before .before .before .before .before .before .before .before .before .loop in
-    let T = l .inv .2 (z .pre .0) (z .pre .3) in
-    (
+    let T = l .inv .2 (z .pre .0) (z .pre .3) in (
       c .before .before .before .before .before .before .before .put .kept .0 ∙ l .inv .0,
       c .before .before .before .before .before .before .before .put .kept .1 .0 ∙ l .inv .1,
       λ G o. go (picture (a .w) (a .h) (a .px .now)) G (a .k) eight (a .e) o (a .from) (a .work .now) (a .words .now) (z .pre .4) (l .n) (l .s) (l .work) (l .words) (l .inv .2 G o) (c .before .before .advance .result) (c .before .before .advance .ensures (a .h)) _ _

@@ -40,8 +40,7 @@ same-length-2 c = search needs
 returns : tie.Need-returns
 returns c =
     let a = c .before .before .before .before .before .before .args in
-    let s = a .s in
-    (
+    let s = a .s in (
       sym (mark-flat _ _ s (sym (c .before .before .before .level .ensures (s .place)) ∙ c .before .before .if1 .taken)),
       ap (λ (z : ℕ). set (a .words .now) (a .n) z) (c .plain-word .ensures .0 ∙ ap (λ (z : ℕ). word eight z (a .k) false) (c .before .code-at .ensures .0)),
     )
@@ -64,8 +63,7 @@ same-length-3 c = search needs
 returns-2 : tie.Need-returns-2
 returns-2 c =
     let a = c .before .before .before .before .before .before .args in
-    let s = a .s in
-    (
+    let s = a .s in (
       sym (mark-tall _ _ s (sym (c .before .before .before .level .ensures (s .place)) ∙ c .before .before .if1 .left)),
       ap (λ (z : ℕ). set (a .words .now) (a .n) z) (c .plain-word2 .ensures .0 ∙ ap (λ (z : ℕ). word eight z (a .k) false) (c .before .code-at2 .ensures .0)),
     )

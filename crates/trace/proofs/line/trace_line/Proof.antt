@@ -64,8 +64,7 @@ returns c =
     let a = z .args in
     let f = c .before .before .before .before .before .follow in
     let n = line-cons (picture (a .w) (a .h) (a .px .now)) (z .pre .0) (a .k) (2 * a .e) (z .pre .3) in
-    let F : Bool → List ℕ → List ℕ = λ b l. pasted (a .words .now) (a .from) (encode eight (a .k) b l) in
-    (
+    let F : Bool → List ℕ → List ℕ = λ b l. pasted (a .words .now) (a .from) (encode eight (a .k) b l) in (
       f .ensures .0,
       f .ensures .1,
       ap (λ (l : List ℕ). set l (a .from) (c .first-word .result)) (f .ensures .2)

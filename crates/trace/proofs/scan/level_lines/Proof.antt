@@ -39,8 +39,7 @@ search-requires c κs =
 loop-holds : tie.Need-loop-holds Inv-loop μ-loop
 loop-holds c =
     let z = c .before .before .before .before .before in
-    let a = z .args in
-    (
+    let a = z .args in (
       refl,
       refl,
       z .pre .fewer,
@@ -55,8 +54,7 @@ trace-line-requires c κs =
     let R = z .pre in
     let l = c .before .before .before .loop in
     let Z = l .inv .3 R in
-    let t : l .p < size (picture (a .w) (a .h) (a .px .now)) - 1 = omega (arith, c .before .before .loop-test .taken, R .ground .whole) in
-    (
+    let t : l .p < size (picture (a .w) (a .h) (a .px .now)) - 1 = omega (arith, c .before .before .loop-test .taken, R .ground .whole) in (
       R .ground,
       R .level,
       omega (arith, R .ground .whole, R .wide, l .inv .0),
@@ -111,8 +109,7 @@ loop-again c =
     let Z = l .inv .3 R in
     let t : l .p < size (picture (a .w) (a .h) (a .px .now)) - 1 = omega (arith, c .before .before .before .before .before .before .before .before .before .loop-test .taken, R .ground .whole) in
     let r = c .before .before .before .before .before .before .trace-line in
-    let n = line-cons (picture (a .w) (a .h) (a .px .now)) (R .ground) (a .k) (2 * l .p) (lead-here (picture (a .w) (a .h) (a .px .now)) (R .ground) (a .k) eight (a .st .words) (a .st .lines) (a .work .now) (a .words .now) (R .wide) (R .room) (l .p) (l .s) (l .work) (l .words) Z t) in
-    (
+    let n = line-cons (picture (a .w) (a .h) (a .px .now)) (R .ground) (a .k) (2 * l .p) (lead-here (picture (a .w) (a .h) (a .px .now)) (R .ground) (a .k) eight (a .st .words) (a .st .lines) (a .work .now) (a .words .now) (R .wide) (R .room) (l .p) (l .s) (l .work) (l .words) Z t) in (
       r .kept .1 .1 .1 .1 .0 ∙ l .inv .0,
       r .kept .1 .1 .1 .1 .1 .0 ∙ l .inv .1,
       omega (arith, l .inv .2, r .ensures .0, ap length (n .1)),

@@ -1,0 +1,84 @@
+-- The rows of the list call one by one. Assumes nothing.
+-- Definitions: `needed` the words needed; `from3` to `from6` the rows from a number on; `Sound` what a list call that is not refused has.
+-- Main laws: `at-3` to `at-6`, `at-0` the verdict where a row is the first that is given, or none is; `sound` what a verdict of 0 says.
+use mathlib.Core.Path.{_≡_, refl, sym, ap, _∙_}
+use mathlib.Core.Bool.{Bool, true, false}
+use mathlib.Core.List.{List, [], _∷_}
+use Prim.Native.Nat.{ℕ, _*_, _≤_, _<_}
+use native.Mathlib.Omega.{arith}
+use lib.Dec.{ltb}
+use lib.ListN.{length}
+use borrow.Author.Tests.{lt-ltb, le-ltb, ltb-false}
+use Rattle.matte.specs.declared.Verdict.{Verdict}
+use Rattle.matte.specs.Layout.{Layout}
+use Rattle.matte.specs.Picture.{Picture, size, levelsFit, borderFits}
+use Rattle.matte.specs.Refusal.{Row, verdict, levelsRow, borderRow, workRow, wordsRow}
+use Rattle.matte.proofs.Rows.{given, passed, fit, unfit, clean, clean-fit}
+use Rattle.refuse.specs.Shape.{Sides, shapeNumber}
+use Rattle.refuse.proofs.Sides.{shape-pass, shape-clean, shape-sides, shape-length}
+use Rattle.outline.specs.List.{listed, listVerdict}
+use Rattle.trace.specs.Trace.{Ground}
+
+module _ (L : Layout) (P : Picture) (ks work out : List ℕ) where
+  abbrev pub needed : ℕ
+  needed = length (listed L P ks)
+
+  abbrev pub from6 : List Row
+  from6 = wordsRow out needed ∷ []
+
+  abbrev pub from5 : List Row
+  from5 = workRow P work ∷ from6
+
+  abbrev pub from4 : List Row
+  from4 = borderRow P ∷ from5
+
+  abbrev pub from3 : List Row
+  from3 = levelsRow L ks ∷ from4
+
+  module _ (s : shapeNumber P ≡ 0) where
+    pub at-3 : levelsFit L ks ≡ false → listVerdict L P ks work out ≡ record { number = 3; place = 0 }
+    at-3 e = shape-pass P from3 s ∙ unfit 3 (levelsFit L ks) from4 e
+
+    module _ (l : levelsFit L ks ≡ true) where
+      to-4 : listVerdict L P ks work out ≡ verdict from4
+      to-4 = shape-pass P from3 s ∙ fit 3 (levelsFit L ks) from4 l
+
+      pub at-4 : borderFits P ≡ false → listVerdict L P ks work out ≡ record { number = 4; place = 0 }
+      at-4 e = to-4 ∙ unfit 4 (borderFits P) from5 e
+
+      module _ (b : borderFits P ≡ true) where
+        to-5 : listVerdict L P ks work out ≡ verdict from5
+        to-5 = to-4 ∙ fit 4 (borderFits P) from5 b
+
+        pub at-5 : length work < size P → listVerdict L P ks work out ≡ record { number = 5; place = 0 }
+        at-5 h = to-5 ∙ given (workRow P work) from6 (lt-ltb (length work) (size P) h)
+
+        module _ (h : size P ≤ length work) where
+          to-6 : listVerdict L P ks work out ≡ verdict from6
+          to-6 = to-5 ∙ passed (workRow P work) from6 (le-ltb (length work) (size P) h)
+
+          pub at-6 : length out < needed → listVerdict L P ks work out ≡ record { number = 6; place = needed }
+          at-6 e = to-6 ∙ given (wordsRow out needed) [] (lt-ltb (length out) needed e)
+
+          pub at-0 : needed ≤ length out → listVerdict L P ks work out ≡ record { number = 0; place = 0 }
+          at-0 e = to-6 ∙ passed (wordsRow out needed) [] (le-ltb (length out) needed e)
+
+  pub record Sound : Type 0 where
+    pub ground : Ground P
+    pub levels : levelsFit L ks ≡ true
+    pub wide : size P ≤ length work
+    pub room : needed ≤ length out
+
+  pub sound : listVerdict L P ks work out .number ≡ 0 → Sound
+  sound e =
+      let a = shape-clean P from3 e in
+      let b = clean-fit 3 (levelsFit L ks) from4 (λ z. omega arith) (a .1) in
+      let c = clean-fit 4 (borderFits P) from5 (λ z. omega arith) (b .1) in
+      let d = clean (workRow P work) from6 (λ z. omega arith) (c .1) in
+      let f = clean (wordsRow out needed) [] (λ z. omega arith) (d .1) in
+      record {
+        ground = record { sides = shape-sides P (a .0); whole = shape-length P (a .0); border = c .0 };
+        levels = b .0;
+        wide = ltb-false (length work) (size P) (d .0);
+        room = ltb-false (length out) needed (f .0);
+      }

@@ -12,9 +12,41 @@ use crate::calls::{Call, Calls};
 pub struct Library;
 
 /// The calls that are linked.
-const LINKED: &[Call] = &[];
+const LINKED: &[Call] = &[Call::List, Call::Crossing];
 
-// extern "C" { ... } comes here.
+/// The answer as the library lays it out.
+#[repr(C)]
+struct Told {
+    number: u32,
+    place: usize,
+    words: usize,
+    lines: usize,
+}
+
+impl From<Told> for Answer {
+    fn from(t: Told) -> Answer {
+        Answer { number: t.number, place: t.place as u64, words: t.words as u64, lines: t.lines as u64 }
+    }
+}
+
+/// A crossing as the library lays it out.
+#[repr(C)]
+struct ToldCrossing {
+    answer: Told,
+    heading: u32,
+    num: u32,
+    den: u32,
+    x: f64,
+    y: f64,
+}
+
+extern "C" {
+    fn loafcanyon_list(
+        w: usize, h: usize, px: *const u8, px_len: usize, levels: *const u8, levels_len: usize, work: *mut u8,
+        work_len: usize, words: *mut u32, words_len: usize,
+    ) -> Told;
+    fn loafcanyon_crossing(w: usize, h: usize, px: *const u8, px_len: usize, level: u8, code: u32) -> ToldCrossing;
+}
 
 #[allow(unused_variables)]
 impl Calls for Library {
@@ -23,7 +55,21 @@ impl Calls for Library {
     }
 
     fn list(&self, w: usize, h: usize, px: &[u8], levels: &[u8], work: &mut [u8], words: &mut [u32]) -> Answer {
-        unlinked()
+        unsafe {
+            loafcanyon_list(
+                w,
+                h,
+                px.as_ptr(),
+                px.len(),
+                levels.as_ptr(),
+                levels.len(),
+                work.as_mut_ptr(),
+                work.len(),
+                words.as_mut_ptr(),
+                words.len(),
+            )
+        }
+        .into()
     }
 
     fn tree(
@@ -37,7 +83,8 @@ impl Calls for Library {
     }
 
     fn crossing(&self, w: usize, h: usize, px: &[u8], level: u8, code: u32) -> Crossing {
-        unlinked()
+        let t = unsafe { loafcanyon_crossing(w, h, px.as_ptr(), px.len(), level, code) };
+        Crossing { answer: t.answer.into(), heading: t.heading, num: t.num, den: t.den, x: t.x, y: t.y }
     }
 
     fn piece(&self, w: usize, h: usize, px: &[u8], level: u8, x: usize, y: usize) -> (Answer, Piece) {

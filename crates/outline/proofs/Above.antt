@@ -1,5 +1,4 @@
 -- The customer's third demand for a picture with a constant border, over the listed lines of one level. Assumes nothing.
--- Definitions: `oddLines w ls x y` how many of the lines count odd for the sample.
 -- Main laws: `stands-once` a crossed edgel stands in exactly one line, once, and no other edgel in any; `row-is-column` counting left along the row and up along the column gives the same odd or even;
 --   `between-east`, `between-south` neighbours differ in it exactly if the line passes between them; `above` a sample is high, against the border, exactly if an odd number of lines counts odd for it;
 --   `above-even`, `above-odd` the same in two sentences.
@@ -8,25 +7,21 @@ use mathlib.Core.Bool.{Bool, true, false, not}
 use mathlib.Core.List.{List, [], _∷_}
 use Prim.Native.Nat.{ℕ, suc, _+_, _*_, _<_}
 use native.Mathlib.Omega.{arith}
-use Rattle.tally.specs.Tally.{one, differ, odd, count, tally, flat}
+use Rattle.tally.specs.Tally.{one, differ, odd, count, tally, flat, stands}
 use Rattle.tally.proofs.Test.{twice, differ-false}
 use Rattle.tally.proofs.Count.{tally-append}
 use Rattle.tally.proofs.Parity.{odd-plus, odd-one}
 use Rattle.matte.specs.Picture.{Picture, high}
 use Rattle.edgel.specs.Edgel.{across, down}
-use Rattle.edgel.specs.Beside.{westOf, oddWest, oddNorth}
+use Rattle.edgel.specs.Beside.{westOf, oddWest, oddNorth, oddLines}
 use Rattle.outline.specs.Line.{cutAt, line, lines}
 use Rattle.outline.proofs.Border.{Border, frame}
 use Rattle.outline.proofs.Paper.{bit}
 use Rattle.outline.proofs.Parity.{row-cut}
 use Rattle.outline.proofs.Beside.{odd-west}
-use Rattle.outline.proofs.Whole.{holds, each-once, line-east, line-south, line-column}
+use Rattle.outline.proofs.Whole.{each-once, line-east, line-south, line-column}
 use Rattle.outline.proofs.Lines.{IsLine}
 use Rattle.outline.proofs.Places.{lead-cut}
-
-unfoldable pub oddLines : ℕ → List (List ℕ) → ℕ → ℕ → ℕ
-oddLines w [] x y = 0
-oddLines w (l ∷ ls) x y = one (oddWest w l x y) + oddLines w ls x y
 
 pub odd-lines : (w : ℕ) (ls : List (List ℕ)) (x y : ℕ) → odd (oddLines w ls x y) ≡ oddWest w (flat ls) x y
 unfolding oddLines flat tally
@@ -45,17 +40,17 @@ module _ (P : Picture) (B : Border P) (k : ℕ) where
     pub row-is-column : (x y : ℕ) → x < P .w → y < P .h → oddWest (P .w) l x y ≡ oddNorth (P .w) l x y
     row-is-column x y a b = rw (I .list) (line-column P B k (I .lead) (lead-cut P B k (I .lead) (I .leading)) x y a b)
 
-    pub between-east : (x y : ℕ) → suc x < P .w → y < P .h → differ (oddWest (P .w) l x y) (oddWest (P .w) l (suc x) y) ≡ holds l (across (P .w) x y)
+    pub between-east : (x y : ℕ) → suc x < P .w → y < P .h → differ (oddWest (P .w) l x y) (oddWest (P .w) l (suc x) y) ≡ stands (across (P .w) x y) l
     between-east x y a b =
         rw (I .list)
         (ap (λ (z : Bool). differ (oddWest (P .w) (line P k (I .lead)) x y) z) (line-east P B k (I .lead) (lead-cut P B k (I .lead) (I .leading)) x y (omega arith))
-        ∙ twice (oddWest (P .w) (line P k (I .lead)) x y) (holds (line P k (I .lead)) (across (P .w) x y)))
+        ∙ twice (oddWest (P .w) (line P k (I .lead)) x y) (stands (across (P .w) x y) (line P k (I .lead))))
 
-    pub between-south : (x y : ℕ) → x < P .w → suc y < P .h → differ (oddWest (P .w) l x y) (oddWest (P .w) l x (suc y)) ≡ holds l (down (P .w) x y)
+    pub between-south : (x y : ℕ) → x < P .w → suc y < P .h → differ (oddWest (P .w) l x y) (oddWest (P .w) l x (suc y)) ≡ stands (down (P .w) x y) l
     between-south x y a b =
         rw (I .list)
         (ap (λ (z : Bool). differ (oddWest (P .w) (line P k (I .lead)) x y) z) (line-south P B k (I .lead) (lead-cut P B k (I .lead) (I .leading)) x y a b)
-        ∙ twice (oddWest (P .w) (line P k (I .lead)) x y) (holds (line P k (I .lead)) (down (P .w) x y)))
+        ∙ twice (oddWest (P .w) (line P k (I .lead)) x y) (stands (down (P .w) x y) (line P k (I .lead))))
 
   -- all crossings of the level left of a sample
   pub west-all : (x y : ℕ) → x < P .w → y < P .h → oddWest (P .w) (flat (lines P k)) x y ≡ differ (high P k 0) (high P k (y * P .w + x))

@@ -1,5 +1,5 @@
 -- The lines of a picture with a constant border, at one level: every crossed edgel once, and neighbours by each line. Assumes nothing.
--- Definitions: `holds l c` the list holds the code; `onLine P k c d` d stands on the line through c.
+-- Definitions: `onLine P k c d` d stands on the line through c.
 -- Main laws: `lines-listing` the walk over places lists the orbits of all leads; `each-once` every crossed edgel is on exactly one line, once; `words-total` how many crossings there are; `scanned`
 --   a scan that marks gives these lines; `line-count` a line holds each of its codes once; `west-row`, `north-col` counting along row and column by its marks; `line-east`, `line-south` neighbours
 --   are on different sides exactly if the line passes between them; `line-column` the row's count and the column's agree.
@@ -11,7 +11,7 @@ use native.Mathlib.Omega.{arith}
 use lib.Dec.{ltb}
 use lib.ListN.{length}
 use borrow.Author.Tests.{ne-eqb}
-use Rattle.tally.specs.Tally.{one, differ, sum, count, flat}
+use Rattle.tally.specs.Tally.{one, differ, sum, count, flat, stands}
 use Rattle.tally.proofs.Pick.{pick-even}
 use Rattle.orbit.specs.Orbit.{orbit, leads}
 use Rattle.orbit.proofs.Orbit.{Closed}
@@ -29,12 +29,9 @@ use Rattle.outline.proofs.Paper.{bit, closedAt, headedAt, kept-along}
 use Rattle.outline.proofs.Parity.{byRow, byCol, step-east, step-south, row-col}
 use Rattle.outline.proofs.Beside.{odd-west, odd-north}
 
-abbrev pub holds : List ℕ → ℕ → Bool
-holds l c = ltb 0 (count c l)
-
 module _ (P : Picture) (k : ℕ) where
   abbrev pub onLine : ℕ → ℕ → Bool
-  onLine c d = holds (line P k c) d
+  onLine c d = stands d (line P k c)
 
   tall-leads : (j : ℕ) → leads (next P k) (cutAt P k) horizontal (2 * size P) (suc (2 * j)) ≡ false
   unfolding leads

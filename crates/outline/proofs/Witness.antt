@@ -13,11 +13,11 @@ use Rattle.tally.specs.Tally.{every, sum, count, tally, total, flat, odd, diffe
 use Rattle.matte.specs.Layout.{eight}
 use Rattle.matte.specs.Picture.{Picture, picture, at, borderFits, ascend}
 use Rattle.edgel.specs.Edgel.{edgel, crossed, cut}
-use Rattle.edgel.specs.Beside.{westOf}
+use Rattle.edgel.specs.Beside.{westOf, oddLines}
 use Rattle.outline.specs.Line.{lines}
 use Rattle.outline.specs.List.{listed}
 use Rattle.outline.proofs.Border.{Border, border-fits}
-use Rattle.outline.proofs.Above.{oddLines, stands-once, above}
+use Rattle.outline.proofs.Above.{stands-once, above}
 use Rattle.outline.proofs.Words.{ofLevel}
 use Rattle.outline.proofs.Listed.{fits-eight, listed-length}
 use Rattle.outline.proofs.Stepped.{paint-back}

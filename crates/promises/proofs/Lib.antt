@@ -1,1 +1,3 @@
 pub mod SmallPictures
+pub mod DemandThree
+pub mod DemandTwoList

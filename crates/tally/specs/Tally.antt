@@ -1,11 +1,11 @@
 -- Counting over numbers and lists. Nothing here knows of pictures. Assumes nothing.
 -- Definitions: `one` 1 for true; `differ` exactly one of two; `apart` the distance of two numbers; `odd` a number is odd; `every`, `sum` over the numbers below n; `build` the list of a
---   function's values; `count` how often a number stands in a list; `tally` how many of a list pass a test; `firstAt` where the first stands that does; `firstFrom` the first number that does;
+--   function's values; `count` how often a number stands in a list, `stands` whether it does; `tally` how many of a list pass a test; `firstAt` where the first stands that does; `firstFrom` the first number that does;
 --   `flat` lists joined; `pick` the lists of those numbers that pass; `total` a function's sum over a list.
 use mathlib.Core.Bool.{Bool, true, false, not, _&&_}
 use mathlib.Core.List.{List, [], _∷_, _++_}
 use Prim.Native.Nat.{ℕ, zero, suc, _+_, _-_, _%_}
-use lib.Dec.{eqb}
+use lib.Dec.{eqb, ltb}
 
 -- 1 for true, 0 for false
 abbrev pub one : Bool → ℕ
@@ -44,6 +44,10 @@ build f i (suc n) = f i ∷ build f (suc i) n
 unfoldable pub count : ℕ → List ℕ → ℕ
 count x [] = 0
 count x (y ∷ l) = one (eqb x y) + count x l
+
+-- x stands in the list
+abbrev pub stands : ℕ → List ℕ → Bool
+stands x l = ltb 0 (count x l)
 
 -- how many of the list pass
 unfoldable pub tally : (ℕ → Bool) → List ℕ → ℕ

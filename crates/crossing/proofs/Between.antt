@@ -1,7 +1,7 @@
 -- A crossing lies strictly between the ends of its edgel. Assumes nothing.
 -- Main laws: `between` on a crossed edgel 0 < num and num < den; `done-between` so in every answer that is not refused.
 use mathlib.Core.Path.{_≡_, refl}
-use mathlib.Core.Bool.{Bool, true, false, not}
+use mathlib.Core.Bool.{true}
 use Prim.Native.Nat.{ℕ, _+_, _-_, _*_, _≤_, _<_}
 use native.Mathlib.Omega.{arith}
 use lib.Dec.{ltb}

@@ -1,6 +1,6 @@
 -- The ends of an edgel are samples of the picture. Assumes nothing.
 -- Main laws: `first-in`, `second-in` both ends of an edgel lie in the picture.
-use mathlib.Core.Path.{_≡_, refl, sym, ap, _∙_}
+use mathlib.Core.Path.{_≡_, sym, ap, _∙_}
 use mathlib.Core.Bool.{Bool, true, false, _&&_, cond}
 use Prim.Native.Nat.{ℕ, _+_, _*_, _/_, _%_, _≤_, _<_}
 use native.Mathlib.Nat.{div-add-mod', mul-le-mul-right}

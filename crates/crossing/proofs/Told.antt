@@ -6,16 +6,15 @@ use mathlib.Core.Bool.{Bool, true, false, not, _&&_, cond}
 use mathlib.Core.List.{List, [], _∷_}
 use Prim.Native.Nat.{ℕ, _+_, _*_}
 use native.Mathlib.Omega.{arith}
-use lib.Dec.{eqb, ltb}
+use lib.Dec.{eqb}
 use lib.Ieee.{Float}
 use lib.ListN.{length}
 use borrow.Author.Tests.{eqb-true, eq-eqb, ne-eqb}
 use Rattle.tally.specs.Tally.{apart, differ}
-use Rattle.matte.specs.declared.Answer.{Answer}
 use Rattle.matte.specs.declared.Verdict.{Verdict}
 use Rattle.matte.specs.Layout.{eight}
 use Rattle.matte.specs.Picture.{Picture, at, high, sideFits, samplesFit, levelsFit}
-use Rattle.matte.specs.Refusal.{Row, row, verdict, answer, afterwards, samplesRow, levelsRow}
+use Rattle.matte.specs.Refusal.{Row, row, verdict, answer, samplesRow, levelsRow}
 use Rattle.matte.proofs.Rows.{fit, unfit}
 use Rattle.edgel.specs.Heading.{number}
 use Rattle.edgel.specs.Edgel.{horizontal, first, second, column, edgel, crossed, headingOf, headingAt}

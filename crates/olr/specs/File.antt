@@ -10,7 +10,7 @@ use Rattle.matte.specs.declared.Verdict.{Verdict}
 use Rattle.matte.specs.Layout.{eight}
 use Rattle.matte.specs.Refusal.{Row, verdict, row, rowAt, answer, afterwards, sidesRow, levelsRow}
 use Rattle.edgel.specs.Word.{wordsFitRow}
-use Rattle.olr.specs.Block.{le2, le4, pad, block}
+use Rattle.block.specs.Block.{le2, le4, pad, block}
 
 -- N is at most 16,777,215 (01, Outline file)
 abbrev pub limit : ℕ

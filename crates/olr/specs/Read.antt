@@ -13,7 +13,7 @@ use Rattle.matte.specs.Picture.{sideFits, levelsFit}
 use Rattle.matte.specs.Refusal.{Row, verdict, row, rowAt, answer, afterwards, wordsRow}
 use Rattle.edgel.specs.Word.{flagged, wordsFitRow}
 use Rattle.olr.specs.declared.Stored.{Stored}
-use Rattle.olr.specs.Block.{num2, num4, check}
+use Rattle.block.specs.Block.{num2, num4, check}
 use Rattle.olr.specs.File.{limit, letters, blocksFor}
 
 -- every byte is zero

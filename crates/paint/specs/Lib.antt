@@ -1,3 +1,4 @@
 pub mod Part
 pub mod Member
 pub mod Paint
+pub mod Span

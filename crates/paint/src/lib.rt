@@ -1,9 +1,176 @@
 // Line part, membership and painting back.
+use edgel::code_of;
+use edgel::flagged;
 use matte::Answer;
+use matte::Verdict;
+use refuse::sides_fit;
+use words::first_bad_code;
+ghost use mathlib.Core.Path.{_≡_};
+ghost use mathlib.Core.Bool.{not, _&&_};
+ghost use mathlib.Core.List.{List, [], _∷_};
+ghost use Prim.Native.Nat.{ℕ, _+_, _*_, _≤_, _<_};
+ghost use lib.Dec.{ltb};
+ghost use lib.ListN.{length, take, drop};
+ghost use Rattle.tally.specs.Tally.{one};
+ghost use Rattle.matte.specs.Layout.{eight};
+ghost use Rattle.matte.specs.Refusal.{row, verdict, sidesRow};
+ghost use Rattle.edgel.specs.Word.{codesRow};
+ghost use Rattle.refuse.specs.Shape.{Sides};
+ghost use Rattle.paint.specs.Part.{rest, part};
+ghost use Rattle.paint.specs.Span.{whole, inSpan};
+ghost use Rattle.paint.specs.Member.{inside, memberAnswer};
 
 // The answer of membership.
 #[repr(C)]
 pub struct Membership {
     pub answer: Answer,
     pub inside: bool,
+}
+
+// Where line n starts, or the length.
+fn start_of(words: &[u32], n: usize) -> usize
+    ensures { λ r. ⌜ (r ≤ length (now (words .entry))) × (part eight n (now (words .entry)) ≡ whole eight (drop r (now (words .entry)))) ⌝ }
+{
+    let mut left = n;
+    let mut i = 0;
+    while i < words.len() {
+        if flagged(words[i]) {
+            if left == 0 {
+                return i;
+            }
+            left -= 1;
+        }
+        i += 1;
+    }
+    i
+}
+
+// How many words stand before the next flagged one.
+fn run_of(s: &[u32]) -> usize
+    ensures { λ r. ⌜ (r ≤ length (now (s .entry))) × (rest eight (now (s .entry)) ≡ take r (now (s .entry))) ⌝ }
+{
+    let mut i = 0;
+    while i < s.len() {
+        if flagged(s[i]) {
+            return i;
+        }
+        i += 1;
+    }
+    i
+}
+
+// Line n of a word list, a part of that list itself; empty where there is none.
+pub fn line_part(words: &[u32], n: usize) -> &[u32]
+    ensures { λ r. ⌜ now r ≡ part eight n (now (words .entry)) ⌝ }
+{
+    let a = start_of(words, n);
+    if a < words.len() {
+        let b = a + 1;
+        let e = b + run_of(&words[b..]);
+        return &words[a..e];
+    }
+    &words[a..a]
+}
+
+// 1 for a horizontal code whose place is among the x places from lo on, else 0.
+fn span_one(lo: usize, x: usize, code: u32) -> usize
+    requires { ⌜ (lo ≤ 4194304) × (x ≤ 2048) ⌝ }
+    ensures { λ r. ⌜ r ≡ one (inSpan lo x code) ⌝ }
+{
+    if code % 2 != 0 {
+        return 0;
+    }
+    let p = (code / 2) as usize;
+    if p < lo {
+        return 0;
+    }
+    if p < lo + x {
+        return 1;
+    }
+    0
+}
+
+// An odd number of the words is horizontal, on row y, in a column below x.
+fn odd_west(w: usize, ws: &[u32], x: usize, y: usize) -> bool
+    requires { ⌜ (0 < w) × (w ≤ 2048) × (x ≤ w) × (y ≤ 2048) ⌝ }
+    ensures { λ r. ⌜ r ≡ inside eight w (now (ws .entry)) x y ⌝ }
+{
+    let lo = y * w;
+    let mut n = 0;
+    let mut i = 0;
+    while i < ws.len() {
+        n += span_one(lo, x, code_of(ws[i]));
+        i += 1;
+    }
+    n % 2 == 1
+}
+
+// The first refusal of 1 8 11 that applies; `count` is the number of the line's words.
+fn member_verdict(w: usize, h: usize, words: &[u32], count: usize, x: usize, y: usize) -> Verdict
+    ensures { λ r. ⌜ (r ≡ verdict (sidesRow w h ∷ codesRow eight w h (now (words .entry)) ∷ row 11 (not (ltb 0 count && (ltb x w && ltb y h))) ∷ [])) × (r .number ≡ 0 → (Sides w h) × (x < w) × (y < h)) ⌝ }
+{
+    if !sides_fit(w, h) {
+        return Verdict {
+            number: 1,
+            place: 0,
+        };
+    }
+    let i = first_bad_code(w, h, words);
+    if i < words.len() {
+        return Verdict {
+            number: 8,
+            place: i,
+        };
+    }
+    if count == 0 {
+        return Verdict {
+            number: 11,
+            place: 0,
+        };
+    }
+    if w <= x {
+        return Verdict {
+            number: 11,
+            place: 0,
+        };
+    }
+    if h <= y {
+        return Verdict {
+            number: 11,
+            place: 0,
+        };
+    }
+    Verdict {
+        number: 0,
+        place: 0,
+    }
+}
+
+// Whether the sample (x, y) is inside line n.
+pub fn member(w: usize, h: usize, words: &[u32], n: usize, x: usize, y: usize) -> Membership
+    ensures { λ r. ⌜ r ≡ memberAnswer eight w h (now (words .entry)) n x y ⌝ }
+{
+    let p = line_part(words, n);
+    let v = member_verdict(w, h, words, p.len(), x, y);
+    if v.number != 0 {
+        return Membership {
+            answer: Answer {
+                number: v.number,
+                place: v.place,
+                words: 0,
+                lines: 0,
+            },
+            inside: false,
+        };
+    }
+    let b = odd_west(w, p, x, y);
+    Membership {
+        answer: Answer {
+            number: 0,
+            place: 0,
+            words: 0,
+            lines: 0,
+        },
+        inside: b,
+    }
 }

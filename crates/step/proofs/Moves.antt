@@ -3,7 +3,7 @@
 -- Main laws: `moves` each entry of the table is the paper's move with one added to both parts; `moved` adding a move and taking the one back gives the place ahead, and nothing goes below 0.
 use mathlib.Core.Path.{_≡_, refl}
 use mathlib.Core.List.{List, [], _∷_}
-use Prim.Native.Nat.{ℕ, _+_, _*_, _-_, _≤_, _<_}
+use Prim.Native.Nat.{ℕ, _+_, _*_, _-_, _≤_}
 use native.Mathlib.Omega.{arith}
 use lib.IntN.{pos, _+ℤ_}
 use lib.ListN.{getD}

@@ -6,7 +6,8 @@ use mathlib.Core.Path.{_≡_, refl, sym, ap, _∙_}
 use mathlib.Core.Bool.{Bool, true, false}
 use mathlib.Core.List.{List, [], _∷_, _++_}
 use mathlib.Core.Logic.{_≢_}
-use Prim.Native.Nat.{ℕ, zero, suc, _+_, _-_, _*_, _/_, _≤_, _<_}
+use Prim.Native.Nat.{ℕ, zero, suc, _+_, _-_, _*_, _/_, _%_, _≤_, _<_}
+use native.Mathlib.Nat.{add-mod-right, mul-le-mul}
 use native.Mathlib.Numerals.{add-one}
 use native.Mathlib.Omega.{arith}
 use lib.ListN.{length, take, drop, getD, set, length-set}
@@ -29,7 +30,7 @@ use Rattle.step.proofs.Next.{state-code, after-next, after-state, ready-in}
 use Rattle.outline.specs.Line.{cutAt, line}
 use Rattle.outline.specs.List.{encode}
 use Rattle.outline.proofs.Border.{Border, border-fits}
-use Rattle.outline.proofs.Codes.{into-out}
+use Rattle.outline.proofs.Codes.{into-out, right-in}
 use Rattle.outline.proofs.Entered.{Entered, heads, goes-heading}
 use Rattle.outline.proofs.Paper.{bit, leave-is, enteredAt, next-is, closedAt}
 use Rattle.outline.proofs.Words.{encode-length, encode-plain}
@@ -57,7 +58,9 @@ module _ (P : Picture) (G : Ground P) (k : ℕ) where
   ready c o =
       let E = enteredAt P (border-of P G) k c o in
       let g : headingAt H c ≡ E .g = heads H (bit P k) (P .w) (P .h) c E in
-      ready-in (P .px) (P .w) (P .h) (E .t) (stateAt H c) (G .sides .w-most) (G .sides .h-most) (G .whole) (E .here .col) (E .here .row)
+      let m : (E .t + P .w) % P .w + 1 < P .w = rw (add-mod-right (E .t) (P .w)) (E .here .col) in
+      let f : P .w * P .h ≤ 2048 * 2048 = mul-le-mul (G .sides .w-most) (G .sides .h-most) in
+      ready-in (P .px) (P .w) (E .t) (stateAt H c) (G .sides .w-most) (omega (arith, G .whole)) (omega (arith, G .whole, right-in (P .w) (P .h) (E .t + P .w) (E .here .row) m))
       (ap first (E .code) ∙ entry-first (P .w) (E .g) (E .t) ∙ ap (λ (z : Heading). entry (P .w) z (E .t)) (sym g))
 
   pub onward : (c : ℕ) → cutAt P k c ≡ true → after P k (stateAt H c) ≡ stateAt H (next P k c)

@@ -1,6 +1,8 @@
 -- `crossing::crossing_verdict` meets its contract. Assumes nothing.
 use mathlib.Core.Path.{sym, _∙_}
+use Prim.Native.Nat.{_*_}
 use native.Mathlib.Omega.{arith}
+use lib.ListN.{length}
 use borrow.Author.Tests.{eq-eqb, ne-eqb, not-true, not-false}
 use borrow.Author.Needs.{needs}
 use Rattle.matte.specs.Picture.{picture}
@@ -26,7 +28,7 @@ returns-2 : tie.Need-returns-2
 returns-2 c =
     let a = c .before .before .before .before .before .args in
     let P = picture (a .w) (a .h) (a .px .now) in
-    refuse-2 P (a .k) (a .code) (sym (c .before .before .before .sides-fit .ensures) ∙ not-false _ (c .before .before .if1 .left)) (ne-eqb _ _ (λ e. c .if2 .taken (e ∙ sym (c .before .area .ensures .0))))
+    refuse-2 P (a .k) (a .code) (sym (c .before .before .before .sides-fit .ensures) ∙ not-false _ (c .before .before .if1 .left)) (ne-eqb (length (a .px .now)) (a .w * a .h) (λ e. omega (arith, c .if2 .taken, c .before .area .ensures .0)))
 
 slice-aggregate-levels-fit : tie.Need-slice-aggregate-levels-fit
 slice-aggregate-levels-fit c = search needs
@@ -38,7 +40,7 @@ returns-3 : tie.Need-returns-3
 returns-3 c =
     let a = c .before .before .before .before .before .before .before .before .args in
     let P = picture (a .w) (a .h) (a .px .now) in
-    refuse-3 P (a .k) (a .code) (sym (c .before .before .before .before .before .before .sides-fit .ensures) ∙ not-false _ (c .before .before .before .before .before .if1 .left)) (eq-eqb _ _ (c .before .before .before .if2 .left ∙ c .before .before .before .before .area .ensures .0)) (sym (c .before .levels-fit .ensures) ∙ not-true _ (c .if3 .taken))
+    refuse-3 P (a .k) (a .code) (sym (c .before .before .before .before .before .before .sides-fit .ensures) ∙ not-false _ (c .before .before .before .before .before .if1 .left)) (eq-eqb (length (a .px .now)) (a .w * a .h) (omega (arith, c .before .before .before .if2 .left, c .before .before .before .before .area .ensures .0))) (sym (c .before .levels-fit .ensures) ∙ not-true _ (c .if3 .taken))
 
 edgel-fits-requires : tie.Need-edgel-fits-requires
 edgel-fits-requires c κs = sides-in _ _ (sym (c .before .before .before .before .before .before .sides-fit .ensures) ∙ not-false _ (c .before .before .before .before .before .if1 .left))
@@ -47,7 +49,7 @@ returns-4 : tie.Need-returns-4
 returns-4 c =
     let a = c .before .before .before .before .before .before .before .before .before .before .args in
     let P = picture (a .w) (a .h) (a .px .now) in
-    refuse-8 P (a .k) (a .code) (sym (c .before .before .before .before .before .before .before .before .sides-fit .ensures) ∙ not-false _ (c .before .before .before .before .before .before .before .if1 .left)) (eq-eqb _ _ (c .before .before .before .before .before .if2 .left ∙ c .before .before .before .before .before .before .area .ensures .0)) (sym (c .before .before .before .levels-fit .ensures) ∙ not-false _ (c .before .before .if3 .left)) (sym (c .before .edgel-fits .ensures) ∙ not-true _ (c .if4 .taken))
+    refuse-8 P (a .k) (a .code) (sym (c .before .before .before .before .before .before .before .before .sides-fit .ensures) ∙ not-false _ (c .before .before .before .before .before .before .before .if1 .left)) (eq-eqb (length (a .px .now)) (a .w * a .h) (omega (arith, c .before .before .before .before .before .if2 .left, c .before .before .before .before .before .before .area .ensures .0))) (sym (c .before .before .before .levels-fit .ensures) ∙ not-false _ (c .before .before .if3 .left)) (sym (c .before .edgel-fits .ensures) ∙ not-true _ (c .if4 .taken))
 
 cast-i : tie.Need-cast-i
 cast-i c = search needs
@@ -72,14 +74,14 @@ returns-5 : tie.Need-returns-5
 returns-5 c =
     let a = c .before .before .before .before .before .before .before .before .before .before .before .before .before .before .before .args in
     let P = picture (a .w) (a .h) (a .px .now) in
-    refuse-10 P (a .k) (a .code) (sym (c .before .before .before .before .before .before .before .before .before .before .before .before .before .sides-fit .ensures) ∙ not-false _ (c .before .before .before .before .before .before .before .before .before .before .before .before .if1 .left)) (eq-eqb _ _ (c .before .before .before .before .before .before .before .before .before .before .if2 .left ∙ c .before .before .before .before .before .before .before .before .before .before .before .area .ensures .0)) (sym (c .before .before .before .before .before .before .before .before .levels-fit .ensures) ∙ not-false _ (c .before .before .before .before .before .before .before .if3 .left)) (sym (c .before .before .before .before .before .before .edgel-fits .ensures) ∙ not-false _ (c .before .before .before .before .before .if4 .left))
+    refuse-10 P (a .k) (a .code) (sym (c .before .before .before .before .before .before .before .before .before .before .before .before .before .sides-fit .ensures) ∙ not-false _ (c .before .before .before .before .before .before .before .before .before .before .before .before .if1 .left)) (eq-eqb (length (a .px .now)) (a .w * a .h) (omega (arith, c .before .before .before .before .before .before .before .before .before .before .if2 .left, c .before .before .before .before .before .before .before .before .before .before .before .area .ensures .0))) (sym (c .before .before .before .before .before .before .before .before .levels-fit .ensures) ∙ not-false _ (c .before .before .before .before .before .before .before .if3 .left)) (sym (c .before .before .before .before .before .before .edgel-fits .ensures) ∙ not-false _ (c .before .before .before .before .before .if4 .left))
     (sym (crossed-is P (a .k) (a .code) _ (c .before .before .before .before .other-end .ensures)) ∙ sym (c .before .splits .ensures) ∙ not-true _ (c .if5 .taken))
 
 returns-6 : tie.Need-returns-6
 returns-6 c =
     let a = c .before .before .before .before .before .before .before .before .before .before .before .before .before .before .before .args in
     let P = picture (a .w) (a .h) (a .px .now) in
-    refuse-none P (a .k) (a .code) (sym (c .before .before .before .before .before .before .before .before .before .before .before .before .before .sides-fit .ensures) ∙ not-false _ (c .before .before .before .before .before .before .before .before .before .before .before .before .if1 .left)) (eq-eqb _ _ (c .before .before .before .before .before .before .before .before .before .before .if2 .left ∙ c .before .before .before .before .before .before .before .before .before .before .before .area .ensures .0)) (sym (c .before .before .before .before .before .before .before .before .levels-fit .ensures) ∙ not-false _ (c .before .before .before .before .before .before .before .if3 .left)) (sym (c .before .before .before .before .before .before .edgel-fits .ensures) ∙ not-false _ (c .before .before .before .before .before .if4 .left))
+    refuse-none P (a .k) (a .code) (sym (c .before .before .before .before .before .before .before .before .before .before .before .before .before .sides-fit .ensures) ∙ not-false _ (c .before .before .before .before .before .before .before .before .before .before .before .before .if1 .left)) (eq-eqb (length (a .px .now)) (a .w * a .h) (omega (arith, c .before .before .before .before .before .before .before .before .before .before .if2 .left, c .before .before .before .before .before .before .before .before .before .before .before .area .ensures .0))) (sym (c .before .before .before .before .before .before .before .before .levels-fit .ensures) ∙ not-false _ (c .before .before .before .before .before .before .before .if3 .left)) (sym (c .before .before .before .before .before .before .edgel-fits .ensures) ∙ not-false _ (c .before .before .before .before .before .if4 .left))
     (sym (crossed-is P (a .k) (a .code) _ (c .before .before .before .before .other-end .ensures)) ∙ sym (c .before .splits .ensures) ∙ not-false _ (c .if5 .left))
 
 pub crossing-verdict-spec : {M : Type 1} → statement M

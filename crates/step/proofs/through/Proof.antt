@@ -1,51 +1,38 @@
+-- `step::through` meets its contract. Assumes nothing.
 use mathlib.Core.Path.{_∙_, ap}
 use native.Mathlib.Omega.{arith}
+use borrow.Author.Needs.{needs}
 use Rattle.matte.specs.Picture.{picture}
 use Rattle.edgel.specs.declared.Heading.{Heading}
 use Rattle.step.specs.Step.{leaving}
 use Rattle.step.proofs.Corner.{ends-at, leave-from}
-use borrow.Author.Needs.{needs}
 use Rattle.step.proofs.through.Statement.{statement}
 use Rattle.step.proofs.through.Tie as tie
-use Rattle.step.proofs.through.Reads as reads
-use Rattle.step.proofs.through.Lts as lts
-use Rattle.step.proofs.leave_by.Reads as leave-by-reads
-use Rattle.step.proofs.place_ahead.Reads as place-ahead-reads
-use Rattle.step.proofs.turn.Reads as turn-reads
 
--- src/lib.rt:107:17
 place-ahead-requires : tie.Need-place-ahead-requires
 place-ahead-requires c κs = let e = ends-at (c .before .args .w) (c .before .args .g) (c .before .args .t) (c .before .args .r) (c .before .args .l) (c .before .pre .3) (c .before .pre .4) in (omega arith, omega (arith, e .nearRight), e .backRight)
 
--- src/lib.rt:107:14
 shared-slice-read-p1 : tie.Need-shared-slice-read-p1
 shared-slice-read-p1 c = omega (arith, (ends-at (c .before .before .before .args .w) (c .before .before .before .args .g) (c .before .before .before .args .t) (c .before .before .before .args .r) (c .before .before .before .args .l) (c .before .before .before .pre .3) (c .before .before .before .pre .4)) .farRight)
 
--- src/lib.rt:108:17
 place-ahead-requires-2 : tie.Need-place-ahead-requires-2
 place-ahead-requires-2 c κs = let e = ends-at (c .before .before .before .args .w) (c .before .before .before .args .g) (c .before .before .before .args .t) (c .before .before .before .args .r) (c .before .before .before .args .l) (c .before .before .before .pre .3) (c .before .before .before .pre .4) in (omega arith, omega (arith, e .nearLeft), e .backLeft)
 
--- src/lib.rt:108:14
 shared-slice-read-p2 : tie.Need-shared-slice-read-p2
 shared-slice-read-p2 c = omega (arith, (ends-at (c .before .before .before .before .before .args .w) (c .before .before .before .before .before .args .g) (c .before .before .before .before .before .args .t) (c .before .before .before .before .before .args .r) (c .before .before .before .before .before .args .l) (c .before .before .before .before .before .pre .3) (c .before .before .before .before .before .pre .4)) .farLeft)
 
--- src/lib.rt:109:24
 shared-slice-read-turn : tie.Need-shared-slice-read-turn
 shared-slice-read-turn c = omega (arith, (ends-at (c .before .before .before .before .before .before .args .w) (c .before .before .before .before .before .before .args .g) (c .before .before .before .before .before .before .args .t) (c .before .before .before .before .before .before .args .r) (c .before .before .before .before .before .before .args .l) (c .before .before .before .before .before .before .pre .3) (c .before .before .before .before .before .before .pre .4)) .nearRight)
 
--- src/lib.rt:109:39
 shared-slice-read-turn-2 : tie.Need-shared-slice-read-turn-2
 shared-slice-read-turn-2 c = omega (arith, (ends-at (c .before .before .before .before .before .before .before .args .w) (c .before .before .before .before .before .before .before .args .g) (c .before .before .before .before .before .before .before .args .t) (c .before .before .before .before .before .before .before .args .r) (c .before .before .before .before .before .before .before .args .l) (c .before .before .before .before .before .before .before .pre .3) (c .before .before .before .before .before .before .before .pre .4)) .nearLeft)
 
--- src/lib.rt:109:9
 turn-requires : tie.Need-turn-requires
 turn-requires c κs = search needs
 
--- src/lib.rt:110:5
 leave-by-requires : tie.Need-leave-by-requires
 leave-by-requires c κs = search needs
 
--- src/lib.rt:103:1
 returns : tie.Need-returns
 returns c h =
     c .leave-by .ensures

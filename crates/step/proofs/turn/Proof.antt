@@ -1,50 +1,36 @@
+-- `step::turn` meets its contract. Assumes nothing.
 use borrow.Author.Tests.{lt-ltb, le-ltb}
 use borrow.Author.Needs.{needs}
 use Rattle.step.proofs.turn.Statement.{statement}
 use Rattle.step.proofs.turn.Tie as tie
-use Rattle.step.proofs.turn.Reads as reads
-use Rattle.step.proofs.turn.Lts as lts
-use Rattle.edgel.proofs.Heading.left.Reads as left-reads
-use Rattle.edgel.proofs.Heading.right.Reads as right-reads
-use Rattle.step.proofs.below_saddle.Reads as below-saddle-reads
 
--- src/lib.rt:76:13
 right-requires : tie.Need-right-requires
 right-requires c κs = search needs
 
--- src/lib.rt:76:13
 returns : tie.Need-returns
 returns c = simp (c .right .ensures, lt-ltb _ _ (c .before .before .if1 .taken), lt-ltb _ _ (c .before .if2 .taken))
 
--- src/lib.rt:78:12
 below-saddle-requires : tie.Need-below-saddle-requires
 below-saddle-requires c κs = search needs
 
--- src/lib.rt:79:13
 right-requires-2 : tie.Need-right-requires-2
 right-requires-2 c κs = search needs
 
--- src/lib.rt:79:13
 returns-2 : tie.Need-returns-2
 returns-2 c = simp (c .right2 .ensures, lt-ltb _ _ (c .before .before .before .before .if1 .taken), le-ltb _ _ (c .before .before .before .if2 .left), ← c .before .before .below-saddle .ensures, c .before .if3 .taken)
 
--- src/lib.rt:81:9
 left-requires : tie.Need-left-requires
 left-requires c κs = search needs
 
--- src/lib.rt:81:9
 returns-3 : tie.Need-returns-3
 returns-3 c = simp (c .left .ensures, lt-ltb _ _ (c .before .before .before .before .if1 .taken), le-ltb _ _ (c .before .before .before .if2 .left), ← c .before .before .below-saddle .ensures, c .before .if3 .left)
 
--- src/lib.rt:84:9
 returns-4 : tie.Need-returns-4
 returns-4 c = simp (le-ltb _ _ (c .before .if1 .left), lt-ltb _ _ (c .if4 .taken))
 
--- src/lib.rt:86:5
 left-requires-2 : tie.Need-left-requires-2
 left-requires-2 c κs = search needs
 
--- src/lib.rt:71:1
 returns-5 : tie.Need-returns-5
 returns-5 c = simp (c .left2 .ensures, le-ltb _ _ (c .before .before .if1 .left), le-ltb _ _ (c .before .if4 .left))
 

@@ -1,0 +1,35 @@
+use Prim.Native.Nat.{_/_, _%_}
+-- `block::put2` meets its contract. Assumes nothing.
+use native.Mathlib.Omega.{arith}
+use lib.ListN.{length-set}
+use Rattle.block.proofs.Put.{put-2}
+use borrow.Author.Needs.{needs}
+use Rattle.block.proofs.put2.Statement.{statement}
+use Rattle.block.proofs.put2.Tie as tie
+use Rattle.block.proofs.put2.Reads as reads
+use Rattle.block.proofs.put2.Lts as lts
+
+cast-s : tie.Need-cast-s
+cast-s c = search needs
+
+slice-write-s : tie.Need-slice-write-s
+slice-write-s c = search needs
+
+cast-s-2 : tie.Need-cast-s-2
+cast-s-2 c = search needs
+
+add-s : tie.Need-add-s
+add-s c = search needs
+
+slice-write-s-2 : tie.Need-slice-write-s-2
+slice-write-s-2 c = simp length-set (omega arith)
+
+same-length : tie.Need-same-length
+same-length c = search needs
+
+returns : tie.Need-returns
+returns c = put-2 (c .args .s .now) (c .args .i) (c .args .n % 256) (c .args .n / 256 % 256) (c .pre)
+
+pub put2-spec : {M : Type 1} → statement M
+put2-spec =
+    tie.close (tie.spec cast-s slice-write-s cast-s-2 add-s slice-write-s-2 same-length returns)

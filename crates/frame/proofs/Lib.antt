@@ -1,0 +1,9 @@
+pub mod Seen
+pub mod Edge
+pub mod Rounds
+pub mod Halves
+pub mod Many
+pub mod Writes
+pub mod Sort
+pub mod Median
+pub mod Framed

@@ -1,0 +1,5 @@
+pub mod Lines
+pub mod Parts
+pub mod West
+pub mod Takes
+pub mod Answers

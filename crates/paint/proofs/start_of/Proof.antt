@@ -1,0 +1,89 @@
+-- `paint::start_of` meets its contract: line n is line `left` of what is left of the list. Assumes nothing.
+use mathlib.Core.Logic.{⊎-elim}
+use mathlib.Core.Path.{_≡_, refl, sym, ap, _∙_}
+use mathlib.Core.List.{List, [], _++_, append-nil}
+use Prim.Native.Nat.{ℕ, _+_, _-_, _≤_, _<_}
+use native.Mathlib.Omega.{arith}
+use borrow.Author.Needs.{needs}
+use lib.ListN.{length, take, drop}
+use lib.Seq.{take-length}
+use Rattle.matte.specs.Layout.{eight}
+use Rattle.paint.specs.Part.{rest, part}
+use Rattle.paint.proofs.Lines.{part-found, part-skip, part-more, part-end}
+use Rattle.paint.proofs.start_of.Statement.{statement}
+use Rattle.paint.proofs.start_of.Tie as tie
+
+abbrev Inv-loop : tie.InvT-loop
+Inv-loop words n left₀ i₀ left i = (i ≤ length words) × (part eight n words ≡ part eight left (drop i words))
+
+abbrev μ-loop : tie.MeasureT-loop
+μ-loop words n left₀ i₀ left i = length words - i
+
+loop-holds : tie.Need-loop-holds Inv-loop μ-loop
+loop-holds c = (omega arith, refl)
+
+mul-flagged : tie.Need-mul-flagged Inv-loop μ-loop
+mul-flagged c = search needs
+
+shared-slice-read-flagged : tie.Need-shared-slice-read-flagged Inv-loop μ-loop
+shared-slice-read-flagged c = search needs
+
+flagged-requires : tie.Need-flagged-requires Inv-loop μ-loop
+flagged-requires c κs = search needs
+
+returns : tie.Need-returns Inv-loop μ-loop
+returns c =
+    let l = c .before .before .before .before .before in
+    let s = l .before .before .args .words .now in
+    let h : l .loop .i < length s = omega arith in (
+      omega arith,
+      l .loop .inv .1
+          ∙ ap (λ (k : ℕ). part eight k (drop (l .loop .i) s)) (c .if2 .taken)
+          ∙ part-found eight s (l .loop .i) h (sym (c .before .before .flagged .ensures) ∙ c .before .if1 .taken),
+    )
+
+sub-left : tie.Need-sub-left Inv-loop μ-loop
+sub-left c = omega arith
+
+add-i : tie.Need-add-i Inv-loop μ-loop
+add-i c = omega arith
+
+loop-less : tie.Need-loop-less Inv-loop μ-loop
+loop-less c = omega arith
+
+loop-again : tie.Need-loop-again Inv-loop μ-loop
+loop-again c =
+    let l = c .before .before .before .before in
+    let s = l .before .before .args .words .now in
+    let h : l .loop .i < length s = omega arith in (
+      omega arith,
+      l .loop .inv .1
+          ∙ ⊎-elim
+          (λ w. rw (w .2) (part-skip eight s (l .loop .i) h _ (sym (c .before .flagged .ensures) ∙ w .0 .taken) (omega (arith, w .1 .left))))
+          (λ w. rw (w .1) (part-more eight s (l .loop .i) h _ (sym (c .before .flagged .ensures) ∙ w .0 .left)))
+          (c .if1 .came),
+    )
+
+returns-2 : tie.Need-returns-2 Inv-loop μ-loop
+returns-2 c =
+    let l = c .before in
+    let s = l .before .before .args .words .now in
+    let e : l .loop .i ≡ length s = omega arith in
+    (omega arith, l .loop .inv .1 ∙ part-end eight (l .loop .left) (l .loop .i) s e)
+
+pub start-of-spec : {M : Type 1} → statement M
+start-of-spec =
+    tie.close
+    (tie.spec
+    Inv-loop
+    μ-loop
+    loop-holds
+    mul-flagged
+    shared-slice-read-flagged
+    flagged-requires
+    returns
+    sub-left
+    add-i
+    loop-less
+    loop-again
+    returns-2)

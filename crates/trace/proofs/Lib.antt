@@ -7,3 +7,4 @@ pub mod All
 pub mod Counting
 pub mod Refusals
 pub mod Zeros
+pub mod Blocks

@@ -1,3 +1,4 @@
 pub mod Trace
 pub mod Level
 pub mod Count
+pub mod Search

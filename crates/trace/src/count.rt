@@ -11,7 +11,8 @@ ghost use Rattle.outline.specs.List.{listed};
 ghost use Rattle.trace.specs.Trace.{Ground, crossings};
 ghost use Rattle.trace.specs.Count.{pair, pairAt};
 
-fn one_if(b: bool) -> u8
+// 1 for true.
+pub fn one_if(b: bool) -> u8
     ensures { λ r. ⌜ (r ≡ one b) × (r ≤ 1) ⌝ }
 {
     if b { 1 } else { 0 }

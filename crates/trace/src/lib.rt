@@ -2,6 +2,7 @@
 mod count;
 mod line;
 mod scan;
+mod search;
 
 use count::count_words;
 use matte::Answer;

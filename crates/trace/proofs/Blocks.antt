@@ -1,0 +1,137 @@
+-- Blocks of 64 places: their bounds, and which of them hold no fresh place. Assumes nothing.
+-- Definitions: `Finding` the first fresh place of a block among those looked at.
+-- Main laws: `lows-none`, `lows-more`, `highs-none`, `highs-more` the bounds of one block more; `dead-block` a block whose bounds do not enclose the level holds no fresh place; `any-more` one test more of many; `find-begin`,
+--   `find-go`, `find-end` the search inside a block.
+use mathlib.Core.Path.{_≡_, refl, sym, ap, _∙_}
+use mathlib.Core.Bool.{Bool, true, false, not, _&&_, cond}
+use mathlib.Core.List.{List}
+use Prim.Native.Nat.{ℕ, _+_, _*_, _≤_, _<_, min, max}
+use native.Mathlib.Numerals.{add-one}
+use native.Mathlib.Omega.{arith}
+use lib.Dec.{eqb, ltb, leb}
+use lib.ListN.{length, getD, set}
+use lib.Seq.{getD-set-same, getD-set-other}
+use borrow.Author.Tests.{eqb-true, eqb-false, leb-true, leb-false, ltb-true, ltb-false, lt-ltb, le-ltb, le-leb, ne-eqb}
+use Rattle.tally.specs.Tally.{one, differ, every}
+use Rattle.tally.proofs.Test.{by-test, no, and-1, and-2, both, differ-self}
+use Rattle.tally.proofs.Every.{every-none, every-more}
+use Rattle.trace.specs.Trace.{fresh}
+use Rattle.trace.specs.Search.{Lows, Highs, liveAt, FirstIn}
+
+-- what holds of each block below b and of what is stored at b holds of each below b + 1
+stored : (Q : ℕ → ℕ → Type 0) (l : List ℕ) (b v : ℕ) → b < length l → ((c : ℕ) → c < b → Q c (getD l c 0)) → Q b v → (c : ℕ) → c < b + 1 → Q c (getD (set l b v) c 0)
+stored Q l b v h q t c u =
+    by-test (eqb c b)
+    (λ e.
+    let s : c ≡ b = eqb-true c b e in
+    rw (s, getD-set-same l b v 0 h) t)
+    (λ e. rw (getD-set-other l b c v 0 (eqb-false c b e)) (q c (omega (arith, eqb-false c b e))))
+
+module _ (px : List ℕ) where
+  pub lows-none : (lo : List ℕ) → Lows px lo 0
+  lows-none lo = record { bound = λ b h i l. absurd (omega arith) }
+
+  pub highs-none : (hi : List ℕ) → Highs px hi 0
+  highs-none hi = record { bound = λ b h i l. absurd (omega arith) }
+
+  pub lows-more : (lo : List ℕ) (b v : ℕ) → b < length lo → Lows px lo b → ((i : ℕ) → i ≤ 64 → v ≤ getD px (64 * b + i) 0) → Lows px (set lo b v) (b + 1)
+  lows-more lo b v h R q = record { bound = stored (λ c x. (i : ℕ) → i ≤ 64 → x ≤ getD px (64 * c + i) 0) lo b v h (R .bound) q }
+
+  pub highs-more : (hi : List ℕ) (b v : ℕ) → b < length hi → Highs px hi b → ((i : ℕ) → i ≤ 64 → getD px (64 * b + i) 0 ≤ v) → Highs px (set hi b v) (b + 1)
+  highs-more hi b v h R q = record { bound = stored (λ c x. (i : ℕ) → i ≤ 64 → getD px (64 * c + i) 0 ≤ x) hi b v h (R .bound) q }
+
+  -- two samples on one side of the level
+  same-side : (k a b : ℕ) → ltb k a ≡ ltb k b → differ (ltb k a) (ltb k b) ≡ false
+  same-side k a b e = ap (λ (z : Bool). differ z (ltb k b)) e ∙ differ-self (ltb k b)
+
+  stale-if : (x y : Bool) → x ≡ false → (x && y) ≡ false
+  stale-if true y e = no refl e
+  stale-if false y e = refl
+
+  pub dead-block : (work lo hi : List ℕ) (k b blocks : ℕ) → Lows px lo blocks → Highs px hi blocks → b < blocks → liveAt lo hi k b ≡ false
+      → (i : ℕ) → i < 64 → fresh px work k (64 * b + i) ≡ false
+  dead-block work lo hi k b blocks A Z h e i l =
+      let s : 64 * b + i + 1 ≡ 64 * b + (i + 1) = omega arith in
+      let a₀ = A .bound b h i (omega arith) in
+      let z₀ = Z .bound b h i (omega arith) in
+      let a₁ : getD lo b 0 ≤ getD px (64 * b + i + 1) 0 = rw s (A .bound b h (i + 1) (omega arith)) in
+      let z₁ : getD px (64 * b + i + 1) 0 ≤ getD hi b 0 = rw s (Z .bound b h (i + 1) (omega arith)) in
+      stale-if (differ (ltb k (getD px (64 * b + i) 0)) (ltb k (getD px (64 * b + i + 1) 0))) _
+      (same-side k (getD px (64 * b + i) 0) (getD px (64 * b + i + 1) 0)
+      (by-test (leb (getD lo b 0) k)
+      (λ t. by-test (ltb k (getD hi b 0))
+      (λ u. no (both t u) e)
+      (λ u.
+      let v : getD hi b 0 ≤ k = ltb-false k (getD hi b 0) u in
+      le-ltb k (getD px (64 * b + i) 0) (omega arith) ∙ sym (le-ltb k (getD px (64 * b + i + 1) 0) (omega arith))))
+      (λ t.
+      let v : k < getD lo b 0 = leb-false (getD lo b 0) k t in
+      lt-ltb k (getD px (64 * b + i) 0) (omega arith) ∙ sym (lt-ltb k (getD px (64 * b + i + 1) 0) (omega arith)))))
+
+pub any-more : (p : ℕ → Bool) (i any : ℕ) (v : Bool) → every p i ≡ eqb any 0 → p i ≡ not v → every p (i + 1) ≡ eqb (max any (one v)) 0
+any-more p i any true e h =
+    ap (every p) (add-one i) ∙ every-more p i ∙ ap (λ (z : Bool). every p i && z) h ∙ nothing (every p i) ∙ sym (ne-eqb (max any 1) 0 (λ z. omega arith))
+  where
+    nothing : (b : Bool) → (b && false) ≡ false
+    nothing true = refl
+    nothing false = refl
+any-more p i any false e h =
+    let s : max any 0 ≡ any = omega arith in
+    ap (every p) (add-one i) ∙ every-more p i ∙ ap (λ (z : Bool). every p i && z) h ∙ all (every p i) ∙ e ∙ ap (λ (z : ℕ). eqb z 0) (sym s)
+  where
+    all : (b : Bool) → (b && true) ≡ b
+    all true = refl
+    all false = refl
+
+module _ (px work : List ℕ) (k a s : ℕ) where
+  pub record Finding (i m : ℕ) : Type 0 where
+    pub most : m ≤ 64
+    pub passed : (j : ℕ) → s ≤ j → j < i → j < m → fresh px work k (a + j) ≡ false
+    pub found : m < 64 → (s ≤ m) × (m < i) × (fresh px work k (a + m) ≡ true)
+
+  pub find-begin : Finding 0 64
+  find-begin = record { most = omega arith; passed = λ j u v t. absurd (omega arith); found = λ t. absurd (omega arith) }
+
+  pub find-go : (i m : ℕ) → i < 64 → Finding i m → (f : Bool) → f ≡ fresh px work k (a + i) → Finding (i + 1) (min m (cond (f && leb s i) i 64))
+  find-go i m h F f e =
+      by-test (f && leb s i)
+      (λ t.
+      let u : fresh px work k (a + i) ≡ true = sym e ∙ and-1 f (leb s i) t in
+      let v : s ≤ i = leb-true s i (and-2 f (leb s i) t) in
+      rw t
+      (by-test (ltb m 64)
+      (λ y.
+      let z = F .found (ltb-true m 64 y) in
+      let x : min m i ≡ m = omega (arith, z .1) in
+      rw x
+      (record {
+        most = F .most;
+        passed = λ j b c d. F .passed j b (omega (arith, z .1)) d;
+        found = λ d. (z .0, omega (arith, z .1), z .2);
+      }))
+      (λ y.
+      let z : 64 ≤ m = ltb-false m 64 y in
+      let x : min m i ≡ i = omega arith in
+      rw x
+      (record {
+        most = omega arith;
+        passed = λ j b c d. F .passed j b (omega arith) (omega arith);
+        found = λ d. (v, omega arith, u);
+      }))))
+      (λ t.
+      let x : min m 64 ≡ m = omega (arith, F .most) in
+      rw (t, x)
+      (record {
+        most = F .most;
+        passed = λ j b c d.
+            by-test (eqb j i)
+            (λ y.
+            let q : j ≡ i = eqb-true j i y in
+            ap (λ (z : ℕ). fresh px work k (a + z)) q ∙ sym e ∙ by-test f (λ w. no (both w (le-leb s i (omega arith))) t) (λ w. w))
+            (λ y. F .passed j b (omega (arith, eqb-false j i y)) d);
+        found = λ d. let z = F .found d in (z .0, omega (arith, z .1), z .2);
+      }))
+
+  pub find-end : (i m : ℕ) → 64 ≤ i → Finding i m → FirstIn px work k a s m
+  find-end i m h F =
+      record { most = F .most; passed = λ j b c. F .passed j b (omega (arith, F .most)) c; found = λ d. let z = F .found d in (z .0, z .2) }

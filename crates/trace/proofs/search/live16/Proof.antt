@@ -1,0 +1,82 @@
+-- `trace::search::live16` meets its contract: a maximum that stays 0 while no block is live. Assumes nothing.
+use mathlib.Core.Path.{_≡_, refl, sym, ap, _∙_}
+use mathlib.Core.Bool.{Bool, not}
+use Prim.Native.Nat.{ℕ, _+_, _-_, _≤_, _<_, max}
+use native.Mathlib.Omega.{arith}
+use lib.Dec.{eqb}
+use borrow.Author.Needs.{needs}
+use Rattle.tally.specs.Tally.{every}
+use Rattle.tally.proofs.Every.{every-none}
+use Rattle.trace.specs.Search.{liveAt}
+use Rattle.trace.proofs.Blocks.{any-more}
+use Rattle.trace.proofs.search.live16.Statement.{statement}
+use Rattle.trace.proofs.search.live16.Tie as tie
+
+abbrev Inv-loop : tie.InvT-loop
+Inv-loop lo hi b k any₀ i₀ any i = (i ≤ 16) × (every (λ j. not (liveAt lo hi k (b + j))) i ≡ eqb any 0)
+
+abbrev μ-loop : tie.MeasureT-loop
+μ-loop lo hi b k any₀ i₀ any i = 16 - i
+
+loop-holds : tie.Need-loop-holds Inv-loop μ-loop
+loop-holds c = (omega arith, every-none _)
+
+add-one-if : tie.Need-add-one-if Inv-loop μ-loop
+add-one-if c = search needs
+
+element-copy-out-one-if : tie.Need-element-copy-out-one-if Inv-loop μ-loop
+element-copy-out-one-if c = search needs
+
+add-one-if-2 : tie.Need-add-one-if-2 Inv-loop μ-loop
+add-one-if-2 c = search needs
+
+element-copy-out-one-if-2 : tie.Need-element-copy-out-one-if-2 Inv-loop μ-loop
+element-copy-out-one-if-2 c = search needs
+
+one-if-requires : tie.Need-one-if-requires Inv-loop μ-loop
+one-if-requires c κs = tt
+
+greater-requires : tie.Need-greater-requires Inv-loop μ-loop
+greater-requires c κs = tt
+
+add-i : tie.Need-add-i Inv-loop μ-loop
+add-i c = search needs
+
+loop-less : tie.Need-loop-less Inv-loop μ-loop
+loop-less c = search needs
+
+loop-again : tie.Need-loop-again Inv-loop μ-loop
+loop-again c =
+    let a = c .before .before .before .before .before .before .args in
+    let l = c .before .before .before .before .before .loop in
+    let p : ℕ → Bool = λ j. not (liveAt (a .lo .now) (a .hi .now) (a .k) (a .b + j)) in
+    (
+      omega arith,
+      any-more p (l .i) (l .any) (liveAt (a .lo .now) (a .hi .now) (a .k) (a .b + l .i)) (l .inv .1) refl
+          ∙ ap (λ (z : ℕ). eqb z 0) (sym (c .greater .ensures ∙ ap (max (l .any)) (c .before .one-if .ensures .0))),
+    )
+
+returns : tie.Need-returns Inv-loop μ-loop
+returns c =
+    let a = c .before .before .args in
+    let l = c .before .loop in
+    let e : l .i ≡ 16 = omega (arith, c .loop-test .left, l .inv .0) in
+    ap not (sym (l .inv .1) ∙ ap (every (λ j. not (liveAt (a .lo .now) (a .hi .now) (a .k) (a .b + j)))) e)
+
+pub live16-spec : {M : Type 1} → statement M
+live16-spec =
+    tie.close
+    (tie.spec
+    Inv-loop
+    μ-loop
+    loop-holds
+    add-one-if
+    element-copy-out-one-if
+    add-one-if-2
+    element-copy-out-one-if-2
+    one-if-requires
+    greater-requires
+    add-i
+    loop-less
+    loop-again
+    returns)

@@ -1,0 +1,125 @@
+// The next place whose horizontal edgel is crossed and not visited yet.
+use crate::count::one_if;
+ghost use mathlib.Core.Path.{_≡_};
+ghost use mathlib.Core.Bool.{Bool, true, false, not, _&&_, cond};
+ghost use mathlib.Core.List.{List};
+ghost use Prim.Native.Nat.{ℕ, _+_, _-_, _*_, _/_, _≤_, _<_, min, max};
+ghost use lib.Dec.{eqb, ltb, leb};
+ghost use lib.ListN.{length, getD};
+ghost use Rattle.tally.specs.Tally.{differ, every, firstFrom};
+ghost use Rattle.trace.specs.Trace.{fresh};
+ghost use Rattle.trace.specs.Search.{Lows, Highs, liveAt, FirstIn};
+
+fn lesser(a: u8, b: u8) -> u8
+    ensures { λ r. ⌜ r ≡ min a b ⌝ }
+{
+    if a < b { a } else { b }
+}
+
+fn greater(a: u8, b: u8) -> u8
+    ensures { λ r. ⌜ r ≡ max a b ⌝ }
+{
+    if a < b { b } else { a }
+}
+
+// The least of the 65 samples from a on.
+fn low64(px: &[u8], a: usize) -> u8
+    requires { ⌜ (a + 64 < length (now px)) × (length (now px) ≤ 4194304) ⌝ }
+    ensures { λ r. ⌜ ((i : ℕ) → i ≤ 64 → r ≤ getD (now (px .entry)) (a + i) 0) ⌝ }
+{
+    let mut m = px[a + 64];
+    let mut i: usize = 0;
+    while i < 64 {
+        m = lesser(m, px[a + i]);
+        i += 1;
+    }
+    m
+}
+
+// The greatest of the 65 samples from a on.
+fn high64(px: &[u8], a: usize) -> u8
+    requires { ⌜ (a + 64 < length (now px)) × (length (now px) ≤ 4194304) ⌝ }
+    ensures { λ r. ⌜ ((i : ℕ) → i ≤ 64 → getD (now (px .entry)) (a + i) 0 ≤ r) ⌝ }
+{
+    let mut m = px[a + 64];
+    let mut i: usize = 0;
+    while i < 64 {
+        m = greater(m, px[a + i]);
+        i += 1;
+    }
+    m
+}
+
+// A lower bound for each block.
+pub fn lows(px: &[u8], lo: &mut [u8; 65536], blocks: usize)
+    requires { ⌜ (64 * blocks < length (now px)) × (length (now px) ≤ 4194304) × (length (now lo) ≡ 65536) ⌝ }
+    ensures { λ r. ⌜ Lows (now (px .entry)) (now (lo .exit)) blocks ⌝ }
+{
+    let mut b: usize = 0;
+    while b < blocks {
+        lo[b] = low64(px, 64 * b);
+        b += 1;
+    }
+}
+
+// An upper bound for each block.
+pub fn highs(px: &[u8], hi: &mut [u8; 65536], blocks: usize)
+    requires { ⌜ (64 * blocks < length (now px)) × (length (now px) ≤ 4194304) × (length (now hi) ≡ 65536) ⌝ }
+    ensures { λ r. ⌜ Highs (now (px .entry)) (now (hi .exit)) blocks ⌝ }
+{
+    let mut b: usize = 0;
+    while b < blocks {
+        hi[b] = high64(px, 64 * b);
+        b += 1;
+    }
+}
+
+// The horizontal edgel between samples a and b is crossed at k, and its byte m is not the level's mark.
+fn is_fresh(a: u8, b: u8, m: u8, k: u8, mark: u8) -> bool
+    ensures { λ r. ⌜ r ≡ (differ (ltb k a) (ltb k b) && not (eqb m mark)) ⌝ }
+{
+    ((k < a) != (k < b)) & (m != mark)
+}
+
+fn or_top(found: bool, i: u8) -> u8
+    ensures { λ r. ⌜ r ≡ cond found i 64 ⌝ }
+{
+    if found { i } else { 64 }
+}
+
+// The first fresh place of the 64 from a on, not before the offset s; 64 with none.
+fn first_in(px: &[u8], work: &[u8], a: usize, s: u8, k: u8, mark: u8) -> u8
+    requires { ⌜ (a + 64 < length (now px)) × (length (now px) ≤ length (now work)) × (length (now px) ≤ 4194304) × (mark ≡ k + 1) ⌝ }
+    ensures { λ r. ⌜ FirstIn (now (px .entry)) (now (work .entry)) k a s r ⌝ }
+{
+    let mut m: u8 = 64;
+    let mut i: u8 = 0;
+    while i < 64 {
+        let p = a + i as usize;
+        m = lesser(m, or_top(is_fresh(px[p], px[p + 1], work[p], k, mark) & (s <= i), i));
+        i += 1;
+    }
+    m
+}
+
+// The level lies between the bounds of block b.
+fn live(lo: &[u8; 65536], hi: &[u8; 65536], b: usize, k: u8) -> bool
+    requires { ⌜ b < 65536 ⌝ }
+    ensures { λ r. ⌜ r ≡ liveAt (now (lo .entry)) (now (hi .entry)) k b ⌝ }
+{
+    (lo[b] <= k) & (k < hi[b])
+}
+
+// One of the 16 blocks from b on is live.
+fn live16(lo: &[u8; 65536], hi: &[u8; 65536], b: usize, k: u8) -> bool
+    requires { ⌜ b + 16 ≤ 65536 ⌝ }
+    ensures { λ r. ⌜ r ≡ not (every (λ i. not (liveAt (now (lo .entry)) (now (hi .entry)) k (b + i))) 16) ⌝ }
+{
+    let mut any: u8 = 0;
+    let mut i: usize = 0;
+    while i < 16 {
+        any = greater(any, one_if((lo[b + i] <= k) & (k < hi[b + i])));
+        i += 1;
+    }
+    any != 0
+}

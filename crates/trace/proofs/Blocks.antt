@@ -1,22 +1,24 @@
 -- Blocks of 64 places: their bounds, and which of them hold no fresh place. Assumes nothing.
 -- Definitions: `Finding` the first fresh place of a block among those looked at.
 -- Main laws: `lows-none`, `lows-more`, `highs-none`, `highs-more` the bounds of one block more; `dead-block` a block whose bounds do not enclose the level holds no fresh place; `any-more` one test more of many; `find-begin`,
---   `find-go`, `find-end` the search inside a block.
+--   `find-go`, `find-end` the search inside a block; `from-over` the first past numbers that fail; `bare-block`, `bare-dead` no fresh place up to the next block, or over blocks that are not live.
 use mathlib.Core.Path.{_≡_, refl, sym, ap, _∙_}
 use mathlib.Core.Bool.{Bool, true, false, not, _&&_, cond}
 use mathlib.Core.List.{List}
-use Prim.Native.Nat.{ℕ, _+_, _*_, _≤_, _<_, min, max}
+use mathlib.Core.Logic.{_⊎_, ⊎-elim, inl, inr}
+use Prim.Native.Nat.{ℕ, _+_, _-_, _*_, _/_, _%_, _≤_, _<_, min, max}
 use native.Mathlib.Numerals.{add-one}
 use native.Mathlib.Omega.{arith}
 use lib.Dec.{eqb, ltb, leb}
 use lib.ListN.{length, getD, set}
 use lib.Seq.{getD-set-same, getD-set-other}
 use borrow.Author.Tests.{eqb-true, eqb-false, leb-true, leb-false, ltb-true, ltb-false, lt-ltb, le-ltb, le-leb, ne-eqb}
-use Rattle.tally.specs.Tally.{one, differ, every}
+use Rattle.tally.specs.Tally.{one, differ, every, firstFrom}
 use Rattle.tally.proofs.Test.{by-test, no, and-1, and-2, both, differ-self}
+use Rattle.tally.proofs.First.{from-ge, from-le, from-before, from-passes, from-is}
 use Rattle.tally.proofs.Every.{every-none, every-more}
 use Rattle.trace.specs.Trace.{fresh}
-use Rattle.trace.specs.Search.{Lows, Highs, liveAt, FirstIn}
+use Rattle.trace.specs.Search.{Lows, Highs, Blocks, liveAt, FirstIn}
 
 -- what holds of each block below b and of what is stored at b holds of each below b + 1
 stored : (Q : ℕ → ℕ → Type 0) (l : List ℕ) (b v : ℕ) → b < length l → ((c : ℕ) → c < b → Q c (getD l c 0)) → Q b v → (c : ℕ) → c < b + 1 → Q c (getD (set l b v) c 0)
@@ -135,3 +137,48 @@ module _ (px work : List ℕ) (k a s : ℕ) where
   pub find-end : (i m : ℕ) → 64 ≤ i → Finding i m → FirstIn px work k a s m
   find-end i m h F =
       record { most = F .most; passed = λ j b c. F .passed j b (omega (arith, F .most)) c; found = λ d. let z = F .found d in (z .0, z .2) }
+
+-- ---- over what is passed
+pub from-over : (p : ℕ → Bool) (b c n : ℕ) → b ≤ c → c ≤ n → ((j : ℕ) → b ≤ j → j < c → p j ≡ false) → firstFrom p c (n - c) ≡ firstFrom p b (n - b)
+from-over p b c n g h q =
+    let r = firstFrom p c (n - c) in
+    let u : c ≤ r = from-ge p c (n - c) in
+    let v : r ≤ c + (n - c) = from-le p c (n - c) in
+    sym
+    (from-is p b (n - b) r (omega arith) (omega arith)
+    (λ j x y. by-test (ltb j c)
+    (λ t. q j x (ltb-true j c t))
+    (λ t. from-before p c (n - c) j (ltb-false j c t) y))
+    (λ t. from-passes p c (n - c) (omega arith)))
+
+module _ (px work lo hi : List ℕ) (k blocks : ℕ) (B : Blocks px lo hi blocks) where
+  -- no place from `from` up to the start of a block is fresh
+  abbrev pub Bare : ℕ → ℕ → Type 0
+  Bare from b = (j : ℕ) → from ≤ j → j < 64 * b → fresh px work k j ≡ false
+
+  split : (j : ℕ) → 64 * (j / 64) + j % 64 ≡ j
+  split j = omega arith
+
+  -- one block with no fresh place
+  pub bare-block : (from b s : ℕ) → ((i : ℕ) → s ≤ i → i < 64 → fresh px work k (64 * b + i) ≡ false) → (from ≡ 64 * b + s) ⊎ ((s ≡ 0) × Bare from b) → Bare from (b + 1)
+  bare-block from b s q w j x y =
+      ⊎-elim
+      (λ e. let t : 64 * b + (j - 64 * b) ≡ j = omega arith in ap (fresh px work k) (sym t) ∙ q (j - 64 * b) (omega arith) (omega arith))
+      (λ z. by-test (ltb j (64 * b))
+      (λ t. z .1 j x (ltb-true j (64 * b) t))
+      (λ t.
+      let u : 64 * b ≤ j = ltb-false j (64 * b) t in
+      let v : 64 * b + (j - 64 * b) ≡ j = omega arith in
+      ap (fresh px work k) (sym v) ∙ q (j - 64 * b) (omega (arith, z .0)) (omega arith)))
+      w
+
+  -- blocks that are not live
+  pub bare-dead : (from b c : ℕ) → c ≤ blocks → Bare from b → ((d : ℕ) → b ≤ d → d < c → liveAt lo hi k d ≡ false) → Bare from c
+  bare-dead from b c h z q j x y =
+      by-test (ltb j (64 * b))
+      (λ t. z j x (ltb-true j (64 * b) t))
+      (λ t.
+      let u : 64 * b ≤ j = ltb-false j (64 * b) t in
+      let v : b ≤ j / 64 = omega arith in
+      let w : j / 64 < c = omega arith in
+      ap (fresh px work k) (sym (split j)) ∙ dead-block px work lo hi k (j / 64) blocks (B .lows) (B .highs) (omega arith) (q (j / 64) v w) (j % 64) (omega arith))

@@ -1,5 +1,5 @@
 -- How the next lead is found: which blocks of 64 places can be passed over. Assumes nothing.
--- Definitions: `Lows`, `Highs` bounds of the samples of each block and the one after it; `liveAt` a block may hold a crossing; `FirstIn` the first fresh place of a block from an offset on.
+-- Definitions: `Lows`, `Highs` bounds of the samples of each block and the one after it, `Blocks` both; `liveAt` a block may hold a crossing; `FirstIn` the first fresh place of a block from an offset on.
 use mathlib.Core.Path.{_≡_}
 use mathlib.Core.Bool.{Bool, true, false, _&&_}
 use mathlib.Core.List.{List}
@@ -14,6 +14,13 @@ pub record Lows (px lo : List ℕ) (blocks : ℕ) : Type 0 where
 
 pub record Highs (px hi : List ℕ) (blocks : ℕ) : Type 0 where
   pub bound : (b : ℕ) → b < blocks → (i : ℕ) → i ≤ 64 → getD px (64 * b + i) 0 ≤ getD hi b 0
+
+-- whole blocks lie inside the picture
+pub record Blocks (px lo hi : List ℕ) (blocks : ℕ) : Type 0 where
+  pub inside : 64 * blocks < length px
+  pub few : length px ≤ 4194304
+  pub lows : Lows px lo blocks
+  pub highs : Highs px hi blocks
 
 -- the level lies between the block's bounds
 abbrev pub liveAt : List ℕ → List ℕ → ℕ → ℕ → Bool

@@ -1,5 +1,8 @@
 // The lines of one level in the order of their leads, and of all levels.
 use crate::line::trace_line;
+use crate::search::highs;
+use crate::search::lows;
+use crate::search::search;
 ghost use mathlib.Core.Path.{_≡_};
 ghost use mathlib.Core.Bool.{Bool, true, false, not, _&&_};
 ghost use mathlib.Core.List.{List, _++_};
@@ -12,7 +15,7 @@ ghost use Rattle.matte.specs.Picture.{picture, levelsFit};
 ghost use Rattle.edgel.specs.Word.{flagged};
 ghost use Rattle.outline.specs.Line.{lines};
 ghost use Rattle.outline.specs.List.{levelWords, listed};
-ghost use Rattle.trace.specs.Trace.{fresh};
+ghost use Rattle.trace.specs.Search.{Blocks};
 ghost use Rattle.trace.specs.Level.{LevelReady, LevelDone, AllReady, AllDone};
 
 // The words and lines written so far.
@@ -21,46 +24,14 @@ pub struct Written {
     pub lines: usize,
 }
 
-// The horizontal edgel between samples a and b is crossed at k, and its byte m is not the level's mark.
-fn is_fresh(a: u8, b: u8, m: u8, k: u8, mark: u8) -> bool
-    ensures { λ r. ⌜ r ≡ (differ (ltb k a) (ltb k b) && not (eqb m mark)) ⌝ }
-{
-    ((k < a) != (k < b)) & (m != mark)
-}
-
-// The first place from `from` on whose horizontal edgel is crossed at k and not visited yet, or the last place.
-fn search(px: &[u8], work: &[u8], k: u8, from: usize) -> usize
-    requires { ⌜ (from < length (now px)) × (length (now px) ≤ length (now work)) × (k < 255) ⌝ }
-    ensures { λ r. ⌜ r ≡ firstFrom (fresh (now (px .entry)) (now (work .entry)) k) from (length (now (px .entry)) - 1 - from) ⌝ }
-{
-    let mark = k + 1;
-    let end = px.len() - 1;
-    let mut p = from;
-    while p < end {
-        if is_fresh(px[p], px[p + 1], work[p], k, mark) {
-            return p;
-        }
-        p += 1;
-    }
-    p
-}
-
 // All lines of level k, their words behind those that stand there already.
-fn level_lines(
-    px: &[u8],
-    w: usize,
-    h: usize,
-    k: u8,
-    work: &mut [u8],
-    words: &mut [u32],
-    st: Written,
-) -> Written
-    requires { ⌜ LevelReady (picture w h (now px)) k (now work) (now words) st ⌝ }
+fn level_lines(px: &[u8], w: usize, h: usize, k: u8, lo: &[u8; 65536], hi: &[u8; 65536], blocks: usize, work: &mut [u8], words: &mut [u32], st: Written) -> Written
+    requires { ⌜ (LevelReady (picture w h (now px)) k (now work) (now words) st) × (Blocks (now px) (now lo) (now hi) blocks) ⌝ }
     ensures { λ r. ⌜ LevelDone (picture w h (now (px .entry))) k (now (work .entry)) (now (words .entry)) st r (now (work .exit)) (now (words .exit)) ⌝ }
 {
     let end = px.len() - 1;
     let mut s = st;
-    let mut p = search(px, work, k, 0);
+    let mut p = search(px, work, lo, hi, blocks, k, 0);
     while p < end {
         let from = s.words;
         let m = s.lines;
@@ -69,7 +40,7 @@ fn level_lines(
             words: n,
             lines: m + 1,
         };
-        p = search(px, work, k, p + 1);
+        p = search(px, work, lo, hi, blocks, k, p + 1);
     }
     s
 }
@@ -86,11 +57,16 @@ pub fn all_levels(
     requires { ⌜ AllReady (picture w h (now px)) (now ks) (now work) (now words) ⌝ }
     ensures { λ r. ⌜ AllDone (picture w h (now (px .entry))) (now (ks .entry)) (now (work .entry)) (now (words .entry)) r (now (work .exit)) (now (words .exit)) ⌝ }
 {
+    let blocks = (px.len() - 1) / 64;
+    let mut lo = [0u8; 65536];
+    let mut hi = [0u8; 65536];
+    lows(px, &mut lo, blocks);
+    highs(px, &mut hi, blocks);
     let mut s = Written { words: 0, lines: 0 };
     let mut j: usize = 0;
     while j < ks.len() {
         let k = ks[j];
-        s = level_lines(px, w, h, k, work, words, s);
+        s = level_lines(px, w, h, k, &lo, &hi, blocks, work, words, s);
         j += 1;
     }
     s

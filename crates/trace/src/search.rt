@@ -8,7 +8,7 @@ ghost use lib.Dec.{eqb, ltb, leb};
 ghost use lib.ListN.{length, getD};
 ghost use Rattle.tally.specs.Tally.{differ, every, firstFrom};
 ghost use Rattle.trace.specs.Trace.{fresh};
-ghost use Rattle.trace.specs.Search.{Lows, Highs, liveAt, FirstIn};
+ghost use Rattle.trace.specs.Search.{Lows, Highs, Blocks, liveAt, FirstIn};
 
 fn lesser(a: u8, b: u8) -> u8
     ensures { λ r. ⌜ r ≡ min a b ⌝ }
@@ -122,4 +122,76 @@ fn live16(lo: &[u8; 65536], hi: &[u8; 65536], b: usize, k: u8) -> bool
         i += 1;
     }
     any != 0
+}
+
+// The first live block from b on, or `blocks`, one by one.
+fn scan_live(lo: &[u8; 65536], hi: &[u8; 65536], b: usize, blocks: usize, k: u8) -> usize
+    requires { ⌜ (b ≤ blocks) × (blocks ≤ 65536) ⌝ }
+    ensures { λ r. ⌜ r ≡ firstFrom (liveAt (now (lo .entry)) (now (hi .entry)) k) b (blocks - b) ⌝ }
+{
+    let mut c = b;
+    while c < blocks {
+        if live(lo, hi, c, k) {
+            return c;
+        }
+        c += 1;
+    }
+    c
+}
+
+// The same, 16 blocks at a time.
+fn next_live(lo: &[u8; 65536], hi: &[u8; 65536], b: usize, blocks: usize, k: u8) -> usize
+    requires { ⌜ (b ≤ blocks) × (blocks ≤ 65536) ⌝ }
+    ensures { λ r. ⌜ r ≡ firstFrom (liveAt (now (lo .entry)) (now (hi .entry)) k) b (blocks - b) ⌝ }
+{
+    let mut c = b;
+    while c + 16 <= blocks {
+        if live16(lo, hi, c, k) {
+            return scan_live(lo, hi, c, blocks, k);
+        }
+        c += 16;
+    }
+    scan_live(lo, hi, c, blocks, k)
+}
+
+// The first fresh place from `from` on, or the last place, one by one.
+fn tail(px: &[u8], work: &[u8], k: u8, from: usize) -> usize
+    requires { ⌜ (from < length (now px)) × (length (now px) ≤ length (now work)) × (k < 255) ⌝ }
+    ensures { λ r. ⌜ r ≡ firstFrom (fresh (now (px .entry)) (now (work .entry)) k) from (length (now (px .entry)) - 1 - from) ⌝ }
+{
+    let mark = k + 1;
+    let end = px.len() - 1;
+    let mut p = from;
+    while p < end {
+        if is_fresh(px[p], px[p + 1], work[p], k, mark) {
+            return p;
+        }
+        p += 1;
+    }
+    p
+}
+
+// The same, passing over blocks that the level does not enter.
+pub fn search(px: &[u8], work: &[u8], lo: &[u8; 65536], hi: &[u8; 65536], blocks: usize, k: u8, from: usize) -> usize
+    requires { ⌜ (from < length (now px)) × (length (now px) ≤ length (now work)) × (k < 255) × Blocks (now px) (now lo) (now hi) blocks ⌝ }
+    ensures { λ r. ⌜ r ≡ firstFrom (fresh (now (px .entry)) (now (work .entry)) k) from (length (now (px .entry)) - 1 - from) ⌝ }
+{
+    let mark = k + 1;
+    let first = from / 64;
+    if blocks <= first {
+        return tail(px, work, k, from);
+    }
+    let i = first_in(px, work, 64 * first, (from % 64) as u8, k, mark);
+    if i < 64 {
+        return 64 * first + i as usize;
+    }
+    let mut b = next_live(lo, hi, first + 1, blocks, k);
+    while b < blocks {
+        let j = first_in(px, work, 64 * b, 0, k, mark);
+        if j < 64 {
+            return 64 * b + j as usize;
+        }
+        b = next_live(lo, hi, b + 1, blocks, k);
+    }
+    tail(px, work, k, 64 * blocks)
 }

@@ -1,4 +1,4 @@
--- `trace::scan::search` meets its contract: no place passed was fresh. Assumes nothing.
+-- `trace::search::tail` meets its contract: no place passed was fresh. Assumes nothing.
 use mathlib.Core.Path.{_≡_, refl, sym, ap, _∙_}
 use mathlib.Core.Bool.{Bool, true, false}
 use Prim.Native.Nat.{ℕ, _+_, _-_, _≤_, _<_}
@@ -10,8 +10,8 @@ use borrow.Author.Needs.{needs}
 use Rattle.tally.proofs.Test.{by-test}
 use Rattle.tally.proofs.First.{from-is}
 use Rattle.trace.specs.Trace.{fresh}
-use Rattle.trace.proofs.scan.search.Statement.{statement}
-use Rattle.trace.proofs.scan.search.Tie as tie
+use Rattle.trace.proofs.search.tail.Statement.{statement}
+use Rattle.trace.proofs.search.tail.Tie as tie
 
 abbrev Inv-loop : tie.InvT-loop
 Inv-loop px work k from mark end p₀ p = (from ≤ p) × (p ≤ length px - 1) × ((j : ℕ) → from ≤ j → j < p → fresh px work k j ≡ false)
@@ -76,8 +76,8 @@ returns-2 c =
     let l = c .before .loop in
     sym (from-is (fresh (a .px .now) (a .work .now) (a .k)) (a .from) (length (a .px .now) - 1 - a .from) (l .p) (l .inv .0) (omega (arith, l .inv .1, l .inv .0)) (l .inv .2) (λ t. absurd (omega (arith, c .loop-test .left, l .inv .0))))
 
-pub search-spec : {M : Type 1} → statement M
-search-spec =
+pub tail-spec : {M : Type 1} → statement M
+tail-spec =
     tie.close
     (tie.spec
     Inv-loop

@@ -19,22 +19,22 @@ use Rattle.trace.proofs.scan.level_lines.Statement.{statement}
 use Rattle.trace.proofs.scan.level_lines.Tie as tie
 
 abbrev Inv-loop : tie.InvT-loop
-Inv-loop px w h k work₀ words₀ end s₀ p₀ work words s p =
+Inv-loop px w h k lo hi blocks work₀ words₀ end s₀ p₀ work words s p =
     (length work ≡ length work₀)
     × (length words ≡ length words₀)
     × (s .lines ≤ s .words)
     × ((R : LevelReady (picture w h px) k work₀ words₀ s₀) → Scanning (picture w h px) (R .ground) k eight (s₀ .words) (s₀ .lines) work₀ words₀ (R .wide) (R .room) p s work words)
 
 abbrev μ-loop : tie.MeasureT-loop
-μ-loop px w h k work₀ words₀ end s₀ p₀ work words s p = length px - 1 - p
+μ-loop px w h k lo hi blocks work₀ words₀ end s₀ p₀ work words s p = length px - 1 - p
 
 sub-end : tie.Need-sub-end Inv-loop μ-loop
-sub-end c = omega (arith, some (c .before .before .before .pre .ground))
+sub-end c = omega (arith, some (c .before .before .before .pre .0 .ground))
 
 search-requires : tie.Need-search-requires Inv-loop μ-loop
 search-requires c κs =
     let z = c .before .before .before .before in
-    (some (z .pre .ground), omega (arith, z .pre .ground .whole, z .pre .wide), z .pre .level)
+    (some (z .pre .0 .ground), omega (arith, z .pre .0 .ground .whole, z .pre .0 .wide), z .pre .0 .level, z .pre .1)
 
 loop-holds : tie.Need-loop-holds Inv-loop μ-loop
 loop-holds c =
@@ -42,7 +42,7 @@ loop-holds c =
     let a = z .args in (
       refl,
       refl,
-      z .pre .fewer,
+      z .pre .0 .fewer,
       λ R. to-lead (picture (a .w) (a .h) (a .px .now)) (R .ground) (a .k) eight (a .st .words) (a .st .lines) (a .work .now) (a .words .now) (R .wide) (R .room) 0 (c .search .result) (a .st) (a .work .now) (a .words .now) (at-begin (picture (a .w) (a .h) (a .px .now)) (R .ground) (a .k) eight (a .st .words) (a .st .lines) (a .work .now) (a .words .now) (R .wide) (R .room) (R .low) (a .st) refl refl)
           (c .search .ensures ∙ ap (λ (n : ℕ). firstFrom (fresh (a .px .now) (a .work .now) (a .k)) 0 (n - 1 - 0)) (R .ground .whole)),
     )
@@ -51,7 +51,7 @@ trace-line-requires : tie.Need-trace-line-requires Inv-loop μ-loop
 trace-line-requires c κs =
     let z = c .before .before .before .before .before .before .before .before .before in
     let a = z .args in
-    let R = z .pre in
+    let R = z .pre .0 in
     let l = c .before .before .before .loop in
     let Z = l .inv .3 R in
     let t : l .p < size (picture (a .w) (a .h) (a .px .now)) - 1 = omega (arith, c .before .before .loop-test .taken, R .ground .whole) in (
@@ -66,17 +66,17 @@ add-search : tie.Need-add-search Inv-loop μ-loop
 add-search c =
     let z = c .before .before .before .before .before .before .before .before .before .before .before .before .before .before in
     let a = z .args in
-    let R = z .pre in
+    let R = z .pre .0 in
     let l = c .before .before .before .before .before .before .before .before .loop in
     let Z = l .inv .3 R in
     let t : l .p < size (picture (a .w) (a .h) (a .px .now)) - 1 = omega (arith, c .before .before .before .before .before .before .before .loop-test .taken, R .ground .whole) in
-    omega (arith, l .inv .2, line-room (picture (a .w) (a .h) (a .px .now)) (R .ground) (a .k) eight (a .st .words) (a .st .lines) (a .work .now) (a .words .now) (R .wide) (R .room) (l .p) (l .s) (l .work) (l .words) Z t, z .good .1 .1 .1 .1 .1 .0 .1)
+    omega (arith, l .inv .2, line-room (picture (a .w) (a .h) (a .px .now)) (R .ground) (a .k) eight (a .st .words) (a .st .lines) (a .work .now) (a .words .now) (R .wide) (R .room) (l .p) (l .s) (l .work) (l .words) Z t, z .good .1 .1 .1 .1 .1 .1 .1 .1 .0 .1)
 
 add-search-2 : tie.Need-add-search-2 Inv-loop μ-loop
 add-search-2 c =
     let z = c .before .before .before .before .before .before .before .before .before .before .before .before .before .before .before in
     let a = z .args in
-    let R = z .pre in
+    let R = z .pre .0 in
     let l = c .before .before .before .before .before .before .before .before .before .loop in
     let Z = l .inv .3 R in
     omega (arith, c .before .before .before .before .before .before .before .before .loop-test .taken, area-most (R .ground))
@@ -85,17 +85,17 @@ search-requires-2 : tie.Need-search-requires-2 Inv-loop μ-loop
 search-requires-2 c κs =
     let z = c .before .before .before .before .before .before .before .before .before .before .before .before .before .before .before in
     let a = z .args in
-    let R = z .pre in
+    let R = z .pre .0 in
     let l = c .before .before .before .before .before .before .before .before .before .loop in
     let Z = l .inv .3 R in
     let t : l .p < size (picture (a .w) (a .h) (a .px .now)) - 1 = omega (arith, c .before .before .before .before .before .before .before .before .loop-test .taken, R .ground .whole) in
-    (omega (arith, R .ground .whole), omega (arith, c .before .before .before .before .before .trace-line .kept .1 .1 .1 .1 .0, l .inv .0, R .ground .whole, R .wide), R .level)
+    (omega (arith, R .ground .whole), omega (arith, c .before .before .before .before .before .trace-line .kept .1 .1 .1 .1 .0, l .inv .0, R .ground .whole, R .wide), R .level, z .pre .1)
 
 loop-less : tie.Need-loop-less Inv-loop μ-loop
 loop-less c =
     let z = c .before .before .before .before .before .before .before .before .before .before .before .before .before .before .before .before in
     let a = z .args in
-    let R = z .pre in
+    let R = z .pre .0 in
     let l = c .before .before .before .before .before .before .before .before .before .before .loop in
     let Z = l .inv .3 R in
     omega (arith, c .before .before .before .before .before .before .before .before .before .loop-test .taken, c .search2 .ensures, from-ge (fresh (a .px .now) (c .before .before .before .before .before .before .trace-line .last .1 .1 .1 .1 .0) (a .k)) (l .p + 1) (length (a .px .now) - 1 - (l .p + 1)))
@@ -104,7 +104,7 @@ loop-again : tie.Need-loop-again Inv-loop μ-loop
 loop-again c =
     let z = c .before .before .before .before .before .before .before .before .before .before .before .before .before .before .before .before in
     let a = z .args in
-    let R = z .pre in
+    let R = z .pre .0 in
     let l = c .before .before .before .before .before .before .before .before .before .before .loop in
     let Z = l .inv .3 R in
     let t : l .p < size (picture (a .w) (a .h) (a .px .now)) - 1 = omega (arith, c .before .before .before .before .before .before .before .before .before .loop-test .taken, R .ground .whole) in
@@ -128,7 +128,7 @@ returns : tie.Need-returns Inv-loop μ-loop
 returns c =
     let z = c .before .before .before .before .before .before .before in
     let a = z .args in
-    let R = z .pre in
+    let R = z .pre .0 in
     let l = c .before .loop in
     let Z = l .inv .3 R in
     let D = at-end (picture (a .w) (a .h) (a .px .now)) (R .ground) (a .k) eight (a .st .words) (a .st .lines) (a .work .now) (a .words .now) (R .wide) (R .room) (l .p) (l .s) (l .work) (l .words) Z (omega (arith, c .loop-test .left, R .ground .whole)) in

@@ -21,9 +21,10 @@ use Rattle.outline.specs.List.{levelWords, listed}
 use Rattle.outline.proofs.Levels.{level-below, levels-ascend}
 use Rattle.outline.proofs.Listed.{Fits, listed-append, listed-more, listed-flags}
 use Rattle.trace.specs.declared.scan.Written.{Written}
-use Rattle.trace.specs.Trace.{Ground, Worn, pasted}
+use Rattle.refuse.specs.Shape.{Ground}
+use Rattle.trace.specs.Trace.{Worn, pasted}
 use Rattle.trace.specs.Level.{LevelReady, LevelDone, AllReady, AllDone}
-use Rattle.trace.proofs.Tracing.{border-of}
+use Rattle.count.proofs.Flat.{border-of}
 use Rattle.trace.proofs.Scanning.{paste-on}
 use Rattle.trace.proofs.Level.{paste-none}
 

@@ -15,7 +15,8 @@ use Rattle.edgel.specs.Edgel.{first}
 use Rattle.edgel.specs.Word.{word}
 use Rattle.outline.specs.Line.{cutAt, line}
 use Rattle.outline.specs.List.{encode}
-use Rattle.trace.specs.Trace.{Ground, pasted}
+use Rattle.refuse.specs.Shape.{Ground}
+use Rattle.trace.specs.Trace.{pasted}
 use Rattle.trace.proofs.Tracing.{place-in}
 
 orbit-cons : (f : ℕ → ℕ) (a n : ℕ) → 0 < n → (rest : List ℕ) × (orbit f a n a ≡ a ∷ rest)

@@ -27,9 +27,12 @@ use Rattle.outline.proofs.Places.{Scanned, marks-begin, place-line, line-low, l
 use Rattle.outline.proofs.Growing.{linesTo, wordsTo, lines-none, lines-one, lines-skip, lines-whole, words-none, words-line, words-skip, words-whole}
 use Rattle.outline.proofs.Words.{encode-length}
 use Rattle.trace.specs.declared.scan.Written.{Written}
-use Rattle.trace.specs.Trace.{Ground, Worn, pasted, fresh}
-use Rattle.trace.proofs.Tracing.{border-of, place-in}
-use Rattle.trace.proofs.Scanning.{own, own-not, own-self, paste-on, fresh-lead, cut-column, over}
+use Rattle.refuse.specs.Shape.{Ground}
+use Rattle.trace.specs.Trace.{Worn, pasted, fresh}
+use Rattle.count.proofs.Flat.{border-of}
+use Rattle.trace.proofs.Tracing.{place-in}
+use Rattle.count.proofs.Flat.{cut-column}
+use Rattle.trace.proofs.Scanning.{own, own-not, own-self, paste-on, fresh-lead, over}
 
 -- ---- marks
 mark-low : (v n : ℕ) (bytes : List ℕ) (c : ℕ) → ((i : ℕ) → i < n → getD bytes i 0 ≤ v) → (i : ℕ) → i < n → getD (mark v bytes c) i 0 ≤ v

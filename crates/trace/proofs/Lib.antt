@@ -4,7 +4,6 @@ pub mod Flag
 pub mod Scanning
 pub mod Level
 pub mod All
-pub mod Counting
 pub mod Refusals
 pub mod Zeros
 pub mod Blocks

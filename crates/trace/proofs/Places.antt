@@ -1,6 +1,5 @@
 -- States and codes of horizontal crossings, and the bytes they mark. Assumes nothing.
--- Main laws: `unlike` the code's != of two tests is `differ`; `double`, `lead-code` a horizontal crossing's code is that of a place exactly if it starts there; `lead-at` the state of a lead; `mark-flat`, `mark-tall` what a crossing marks; `area-most`, `some` a picture has at most
---   4,194,304 samples, and some.
+-- Main laws: `double`, `lead-code` a horizontal crossing's code is that of a place exactly if it starts there; `lead-at` the state of a lead; `mark-flat`, `mark-tall` what a crossing marks.
 use mathlib.Core.Path.{_≡_, refl, sym, ap, _∙_}
 use mathlib.Core.Bool.{Bool, true, false, not, Bool·beq, cond}
 use mathlib.Core.List.{List}
@@ -19,13 +18,7 @@ use Rattle.step.specs.declared.State.{State}
 use Rattle.step.specs.Step.{codeOn, codeAt, stateAt}
 use Rattle.matte.specs.Picture.{Picture}
 use Rattle.outline.proofs.Bytes.{mark}
-use Rattle.trace.specs.Trace.{Ground}
-
-pub unlike : (x y : Bool) → not (Bool·beq x y) ≡ differ x y
-unlike true true = refl
-unlike true false = refl
-unlike false true = refl
-unlike false false = refl
+use Rattle.refuse.specs.Shape.{Ground}
 
 pub double : (i e : ℕ) → eqb (2 * i) (2 * e) ≡ eqb i e
 double i e =
@@ -81,9 +74,3 @@ mark-flat v bytes s h =
 pub mark-tall : (v : ℕ) (bytes : List ℕ) (s : State) → horizontal (codeAt s) ≡ false → mark v bytes (codeAt s) ≡ bytes
 unfolding mark
 mark-tall v bytes s h = ap (λ (b : Bool). cond b (set bytes (first (codeAt s)) v) bytes) h
-
-pub area-most : {P : Picture} → Ground P → length (P .px) ≤ 4194304
-area-most {P} G = omega (arith, G .whole, mul-le-mul (G .sides .w-most) (G .sides .h-most))
-
-pub some : {P : Picture} → Ground P → 0 < length (P .px)
-some {P} G = omega (arith, G .whole, mul-le-mul (G .sides .w-least) (G .sides .h-least))

@@ -17,7 +17,7 @@ use Rattle.matte.proofs.Rows.{given, passed, fit, unfit, clean, clean-fit}
 use Rattle.refuse.specs.Shape.{Sides, shapeNumber}
 use Rattle.refuse.proofs.Sides.{shape-pass, shape-clean, shape-sides, shape-length}
 use Rattle.outline.specs.List.{listed, listVerdict}
-use Rattle.trace.specs.Trace.{Ground}
+use Rattle.refuse.specs.Shape.{Ground}
 
 module _ (L : Layout) (P : Picture) (ks work out : List ℕ) where
   abbrev pub needed : ℕ

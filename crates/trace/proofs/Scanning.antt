@@ -1,6 +1,6 @@
 -- Places of one level that are fresh, and those that are not. Assumes nothing.
 -- Definitions: `own` the byte is the level's mark; `Stand` what is unchanged at a later place.
--- Main laws: `length-pasted`, `paste-on` pasting behind what was pasted; `own-self`, `own-not`; `cut-column` a crossed horizontal edgel is not at a row's end; `fresh-lead` a fresh place leads, `stale` one that
+-- Main laws: `length-pasted`, `paste-on` pasting behind what was pasted; `own-self`, `own-not`; `fresh-lead` a fresh place leads, `stale` one that
 --   is not fresh does not; `over` from a place over those that are not fresh.
 use mathlib.Core.Path.{_≡_, refl, sym, ap, _∙_}
 use mathlib.Core.Bool.{Bool, true, false, not, _&&_}
@@ -26,8 +26,9 @@ use Rattle.outline.proofs.Codes.{cut-flat}
 use Rattle.outline.proofs.Bytes.{marked, markAll, mark-all-length, mark-past}
 use Rattle.outline.proofs.Places.{Scanned, marks-begin, place-tell, place-skip, place-line, line-low, lead-cut, not-lead}
 use Rattle.outline.proofs.Growing.{linesTo, wordsTo, lines-none, lines-one, lines-skip, lines-whole, words-none, words-line, words-skip, words-whole}
-use Rattle.trace.specs.Trace.{Ground, Worn, pasted, fresh}
-use Rattle.trace.proofs.Tracing.{border-of}
+use Rattle.refuse.specs.Shape.{Ground}
+use Rattle.trace.specs.Trace.{Worn, pasted, fresh}
+use Rattle.count.proofs.Flat.{border-of, crossed-cut, cut-crossed}
 
 -- ---- pasting
 pub length-pasted : (d : List ℕ) (n : ℕ) (f : List ℕ) → n + length f ≤ length d → length (pasted d n f) ≡ length d
@@ -61,32 +62,6 @@ own-not k work d h = ne-eqb (getD work (first d) 0) (k + 1) (λ e. omega arith)
 module _ (P : Picture) (G : Ground P) (k : ℕ) where
   abbrev B : Border P
   B = border-of P G
-
-  -- a place at a row's end and the next row's start are both border
-  row-end : (i : ℕ) → i + 1 < size P → i % P .w + 1 ≡ P .w → differ (high P k i) (high P k (i + 1)) ≡ false
-  row-end i l e =
-      let d : i / P .w * P .w + i % P .w ≡ i = div-add-mod' i (P .w) in
-      let p : 0 < P .w = omega (arith, G .sides .w-least) in
-      let s : i + 1 ≡ (i / P .w + 1) * P .w + 0 = omega arith in
-      let m : (i + 1) % P .w ≡ 0 = ap (λ (z : ℕ). z % P .w) s ∙ digits-mod (i / P .w + 1) p in
-      ap (λ (z : ℕ). differ (ltb k z) (high P k (i + 1))) (B .rights i (omega arith) e)
-      ∙ ap (λ (z : ℕ). differ (high P k 0) (ltb k z)) (B .lefts (i + 1) l m)
-      ∙ differ-self (high P k 0)
-
-  pub crossed-cut : (i : ℕ) → i + 1 < size P → differ (high P k i) (high P k (i + 1)) ≡ true → cutAt P k (2 * i) ≡ true
-  crossed-cut i l e =
-      let m : i % P .w < P .w = mod-lt i (omega (arith, G .sides .w-least)) in
-      by-test (ltb (i % P .w + 1) (P .w))
-      (λ t. cut-flat (high P k) (P .w) (P .h) i ∙ both (both t (lt-ltb i (size P) (omega arith))) e)
-      (λ t. no e (row-end i l (omega (arith, ltb-false (i % P .w + 1) (P .w) t))))
-
-  pub cut-crossed : (i : ℕ) → cutAt P k (2 * i) ≡ true → (i % P .w + 1 < P .w) × (differ (high P k i) (high P k (i + 1)) ≡ true)
-  cut-crossed i o =
-      let z = sym (cut-flat (high P k) (P .w) (P .h) i) ∙ o in
-      (ltb-true _ _ (and-1 (ltb (i % P .w + 1) (P .w)) _ (and-1 _ _ z)), and-2 (ltb (i % P .w + 1) (P .w) && ltb i (size P)) _ z)
-
-  pub cut-column : (i : ℕ) → cutAt P k (2 * i) ≡ true → i % P .w + 1 < P .w
-  cut-column i o = cut-crossed i o .0
 
   module _ (work : List ℕ) where
     abbrev m : ℕ → Bool

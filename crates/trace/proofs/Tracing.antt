@@ -1,6 +1,6 @@
 -- The loop that follows one line: where it stands, and what it has written and marked. Assumes nothing.
 -- Definitions: `Tracing` the loop's invariant at the crossing c.
--- Main laws: `border-of` the ground's border; `ready` a crossing of the line enters a cell of the picture; `onward` the step is the next crossing; `begin`, `go`, `stop`, `never` the loop's moves: it begins at the
+-- Main laws: `ready` a crossing of the line enters a cell of the picture; `onward` the step is the next crossing; `begin`, `go`, `stop`, `never` the loop's moves: it begins at the
 --   lead, goes on while the next crossing is not the lead, has the whole line when it is, and never runs out.
 use mathlib.Core.Path.{_≡_, refl, sym, ap, _∙_}
 use mathlib.Core.Bool.{Bool, true, false}
@@ -35,7 +35,9 @@ use Rattle.outline.proofs.Entered.{Entered, heads, goes-heading}
 use Rattle.outline.proofs.Paper.{bit, leave-is, enteredAt, next-is, closedAt}
 use Rattle.outline.proofs.Words.{encode-length, encode-plain}
 use Rattle.outline.proofs.Bytes.{mark, markAll, mark-take}
-use Rattle.trace.specs.Trace.{Ground, pasted}
+use Rattle.refuse.specs.Shape.{Ground}
+use Rattle.count.proofs.Flat.{border-of}
+use Rattle.trace.specs.Trace.{pasted}
 
 -- ---- states and cells
 entry-first : (w : ℕ) (g : Heading) (t : ℕ) → first (out w (back g) t) ≡ entry w g t
@@ -43,9 +45,6 @@ entry-first w South t = omega arith
 entry-first w East t = omega arith
 entry-first w North t = omega arith
 entry-first w West t = omega arith
-
-pub border-of : (P : Picture) → Ground P → Border P
-border-of P G = border-fits P (omega (arith, G .sides .h-least)) (G .border)
 
 module _ (P : Picture) (G : Ground P) (k : ℕ) where
   abbrev H : ℕ → Bool

@@ -12,7 +12,8 @@ use Rattle.edgel.specs.Word.{flagged}
 use Rattle.outline.specs.Line.{lines}
 use Rattle.outline.specs.List.{levelWords, listed}
 use Rattle.trace.specs.declared.scan.Written.{Written}
-use Rattle.trace.specs.Trace.{Ground, Worn, pasted}
+use Rattle.refuse.specs.Shape.{Ground}
+use Rattle.trace.specs.Trace.{Worn, pasted}
 
 -- every work byte is below the level's mark, and there is room for the level's words; a line has at least one word
 pub record LevelReady (P : Picture) (k : ℕ) (work words : List ℕ) (st : Written) : Type 0 where

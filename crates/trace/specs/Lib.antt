@@ -1,4 +1,3 @@
 pub mod Trace
 pub mod Level
-pub mod Count
 pub mod Search

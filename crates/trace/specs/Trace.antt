@@ -1,22 +1,13 @@
 -- How the list call works: which places it looks for, how words go in, what it does to the work bytes. Assumes nothing.
--- Definitions: `Ground` what following a line needs of a picture; `pasted` a list with another one in it; `fresh` a place whose edgel is crossed and not
---   visited; `crossings` how many edgels are crossed at a level; `Worn` what a level leaves of the work bytes.
+-- Definitions: `pasted` a list with another one in it; `fresh` a place whose edgel is crossed and not
+--   visited; `Worn` what a level leaves of the work bytes.
 use mathlib.Core.Path.{_≡_}
 use mathlib.Core.Bool.{Bool, true, not, _&&_}
 use mathlib.Core.List.{List, _++_}
 use Prim.Native.Nat.{ℕ, _+_, _*_, _≤_, _<_}
 use lib.Dec.{eqb, ltb}
 use lib.ListN.{length, take, drop, getD}
-use Rattle.tally.specs.Tally.{differ, one, sum}
-use Rattle.matte.specs.Picture.{Picture, size, borderFits}
-use Rattle.refuse.specs.Shape.{Sides}
-use Rattle.outline.specs.Line.{cutAt}
-
--- fitting sides, w·h samples, a constant border
-pub record Ground (P : Picture) : Type 0 where
-  pub sides : Sides (P .w) (P .h)
-  pub whole : length (P .px) ≡ size P
-  pub border : borderFits P ≡ true
+use Rattle.tally.specs.Tally.{differ}
 
 -- the list d, with the list f in it from the place n on
 abbrev pub pasted : List ℕ → ℕ → List ℕ → List ℕ
@@ -25,10 +16,6 @@ pasted d n f = take n d ++ f ++ drop (n + length f) d
 -- the horizontal edgel from the place i is crossed at k, and its byte is not k + 1
 abbrev pub fresh : List ℕ → List ℕ → ℕ → ℕ → Bool
 fresh px work k i = differ (ltb k (getD px i 0)) (ltb k (getD px (i + 1) 0)) && not (eqb (getD work i 0) (k + 1))
-
--- how many edgels of the picture are crossed at k
-unfoldable pub crossings : Picture → ℕ → ℕ
-crossings P k = sum (λ c. one (cutAt P k c)) (2 * size P)
 
 -- the first n bytes are at most v, the rest are as they were
 pub record Worn (n v : ℕ) (was work : List ℕ) : Type 0 where

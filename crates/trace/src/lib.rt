@@ -1,5 +1,4 @@
 // Listing: all lines of all levels, in order, as words.
-mod count;
 mod line;
 mod scan;
 mod search;

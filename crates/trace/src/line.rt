@@ -19,7 +19,8 @@ ghost use Rattle.step.specs.Step.{codeAt, stateAt};
 ghost use Rattle.outline.specs.Line.{cutAt, line};
 ghost use Rattle.outline.specs.List.{encode};
 ghost use Rattle.outline.proofs.Bytes.{mark, markAll};
-ghost use Rattle.trace.specs.Trace.{Ground, pasted};
+ghost use Rattle.refuse.specs.Shape.{Ground};
+ghost use Rattle.trace.specs.Trace.{pasted};
 
 // Stores the word of a crossing at n, and marks the place of a horizontal one.
 fn put(work: &mut [u8], words: &mut [u32], n: usize, s: State, k: u8)

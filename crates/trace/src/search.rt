@@ -1,5 +1,5 @@
 // The next place whose horizontal edgel is crossed and not visited yet.
-use crate::count::one_if;
+use count::one_if;
 ghost use mathlib.Core.Path.{_≡_};
 ghost use mathlib.Core.Bool.{Bool, true, false, not, _&&_, cond};
 ghost use mathlib.Core.List.{List};

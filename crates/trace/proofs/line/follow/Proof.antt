@@ -8,9 +8,9 @@ use lib.ListN.{length}
 use Rattle.matte.specs.Layout.{eight}
 use Rattle.matte.specs.Picture.{picture, high}
 use Rattle.outline.specs.Line.{cutAt}
-use Rattle.trace.specs.Trace.{Ground}
+use Rattle.refuse.specs.Shape.{Ground}
 use Rattle.trace.proofs.Tracing.{Tracing, begin, go, stop, never, place-in, place-is, in-line, set-off}
-use Rattle.trace.proofs.Places.{area-most}
+use Rattle.count.proofs.Flat.{area-most}
 use Rattle.trace.proofs.line.follow.Statement.{statement}
 use Rattle.trace.proofs.line.follow.Tie as tie
 

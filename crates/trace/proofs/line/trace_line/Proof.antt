@@ -12,7 +12,7 @@ use Rattle.edgel.specs.Word.{word}
 use Rattle.outline.specs.Line.{line}
 use Rattle.outline.specs.List.{encode}
 use Rattle.trace.specs.Trace.{pasted}
-use Rattle.trace.proofs.Places.{area-most}
+use Rattle.count.proofs.Flat.{area-most}
 use Rattle.trace.proofs.Tracing.{place-in}
 use Rattle.trace.proofs.Flag.{line-cons, flag-first}
 use Rattle.trace.proofs.line.trace_line.Statement.{statement}

@@ -6,7 +6,7 @@ use lib.ListN.{length, getD, length-replicate}
 use Rattle.matte.specs.Picture.{picture}
 use Rattle.trace.specs.Level.{AllReady}
 use Rattle.trace.specs.Search.{Blocks}
-use Rattle.trace.proofs.Places.{area-most, some}
+use Rattle.count.proofs.Flat.{area-most, some}
 use Rattle.trace.proofs.All.{Listing, all-begin, level-ready, all-go, all-end}
 use Rattle.trace.proofs.scan.all_levels.Statement.{statement}
 use Rattle.trace.proofs.scan.all_levels.Tie as tie

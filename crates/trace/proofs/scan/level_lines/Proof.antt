@@ -10,9 +10,10 @@ use Rattle.tally.proofs.First.{from-ge}
 use Rattle.matte.specs.Layout.{eight}
 use Rattle.matte.specs.Picture.{picture, size}
 use Rattle.outline.specs.Line.{line}
-use Rattle.trace.specs.Trace.{Ground, fresh}
+use Rattle.refuse.specs.Shape.{Ground}
+use Rattle.trace.specs.Trace.{fresh}
 use Rattle.trace.specs.Level.{LevelReady}
-use Rattle.trace.proofs.Places.{area-most, some}
+use Rattle.count.proofs.Flat.{area-most, some}
 use Rattle.trace.proofs.Flag.{line-cons}
 use Rattle.trace.proofs.Level.{Scanning, at-begin, to-lead, lead-here, line-room, at-line, at-end}
 use Rattle.trace.proofs.scan.level_lines.Statement.{statement}

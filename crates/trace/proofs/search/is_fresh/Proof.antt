@@ -2,7 +2,7 @@
 use mathlib.Core.Path.{ap}
 use mathlib.Core.Bool.{Bool, not, _&&_}
 use lib.Dec.{eqb, ltb}
-use Rattle.trace.proofs.Places.{unlike}
+use Rattle.count.proofs.Flat.{unlike}
 use Rattle.trace.proofs.search.is_fresh.Statement.{statement}
 use Rattle.trace.proofs.search.is_fresh.Tie as tie
 

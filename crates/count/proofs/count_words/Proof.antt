@@ -1,4 +1,4 @@
--- `trace::count::count_words` meets its contract: the sum over all levels passed. Assumes nothing.
+-- `count::count_words` meets its contract: the sum over all levels passed. Assumes nothing.
 use mathlib.Core.Path.{_≡_, refl, sym, ap, _∙_}
 use Prim.Native.Nat.{ℕ, _+_, _-_, _*_, _≤_, _<_}
 use native.Mathlib.Omega.{arith}
@@ -6,10 +6,10 @@ use lib.ListN.{length, take, getD}
 use Rattle.tally.specs.Tally.{total}
 use Rattle.matte.specs.Layout.{eight}
 use Rattle.matte.specs.Picture.{picture}
-use Rattle.trace.specs.Trace.{crossings}
-use Rattle.trace.proofs.Counting.{levels-few, counted-none, counted-more, counted-all}
-use Rattle.trace.proofs.count.count_words.Statement.{statement}
-use Rattle.trace.proofs.count.count_words.Tie as tie
+use Rattle.count.specs.Count.{crossings}
+use Rattle.count.proofs.Counting.{levels-few, counted-none, counted-more, counted-all}
+use Rattle.count.proofs.count_words.Statement.{statement}
+use Rattle.count.proofs.count_words.Tie as tie
 
 abbrev Inv-loop : tie.InvT-loop
 Inv-loop px w h ks n₀ j₀ n j = (j ≤ length ks) × (n ≡ total (crossings (picture w h px)) (take j ks)) × (n ≤ j * 8388608)

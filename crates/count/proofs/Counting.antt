@@ -22,10 +22,9 @@ use Rattle.outline.specs.List.{listed}
 use Rattle.outline.proofs.Listed.{listed-length}
 use Rattle.outline.proofs.Border.{Border}
 use Rattle.outline.proofs.Codes.{cut-flat, cut-tall}
-use Rattle.trace.specs.Trace.{Ground, crossings}
-use Rattle.trace.specs.Count.{pair, pairAt}
-use Rattle.trace.proofs.Tracing.{border-of}
-use Rattle.trace.proofs.Scanning.{crossed-cut, cut-crossed}
+use Rattle.refuse.specs.Shape.{Ground}
+use Rattle.count.specs.Count.{crossings, pair, pairAt}
+use Rattle.count.proofs.Flat.{border-of, crossed-cut, cut-crossed}
 
 module _ (P : Picture) (G : Ground P) (k : ℕ) where
   abbrev H : ℕ → Bool

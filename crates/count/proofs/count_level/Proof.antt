@@ -1,4 +1,4 @@
--- `trace::count::count_level` meets its contract: the sum over all places passed. Assumes nothing.
+-- `count::count_level` meets its contract: the sum over all places passed. Assumes nothing.
 use mathlib.Core.Path.{_≡_, refl, sym, ap, _∙_}
 use Prim.Native.Nat.{ℕ, _+_, _-_, _*_, _≤_, _<_}
 use native.Mathlib.Omega.{arith}
@@ -7,11 +7,11 @@ use borrow.Author.Needs.{needs}
 use Rattle.tally.specs.Tally.{sum}
 use Rattle.tally.proofs.Sum.{sum-next, sum-cut}
 use Rattle.matte.specs.Picture.{picture}
-use Rattle.trace.specs.Count.{pairAt}
-use Rattle.trace.proofs.Places.{area-most}
-use Rattle.trace.proofs.Counting.{crossings-sum, pairs-most, all-most, row-fits}
-use Rattle.trace.proofs.count.count_level.Statement.{statement}
-use Rattle.trace.proofs.count.count_level.Tie as tie
+use Rattle.count.specs.Count.{pairAt}
+use Rattle.count.proofs.Flat.{area-most}
+use Rattle.count.proofs.Counting.{crossings-sum, pairs-most, all-most, row-fits}
+use Rattle.count.proofs.count_level.Statement.{statement}
+use Rattle.count.proofs.count_level.Tie as tie
 
 abbrev Inv-loop : tie.InvT-loop
 Inv-loop px w h k end n₀ a₀ n a = (a ≤ length px - w) × (n ≡ sum (pairAt px w k) a)

@@ -1,4 +1,4 @@
--- `trace::count::count64` meets its contract. Assumes nothing.
+-- `count::count64` meets its contract. Assumes nothing.
 use mathlib.Core.Path.{_≡_, refl, sym, ap, _∙_}
 use Prim.Native.Nat.{ℕ, _+_, _-_, _*_, _≤_, _<_}
 use native.Mathlib.Omega.{arith}
@@ -6,10 +6,10 @@ use lib.ListN.{length}
 use borrow.Author.Needs.{needs}
 use Rattle.tally.specs.Tally.{sum}
 use Rattle.tally.proofs.Sum.{sum-next}
-use Rattle.trace.specs.Count.{pairAt}
-use Rattle.trace.proofs.Counting.{pairs-most}
-use Rattle.trace.proofs.count.count64.Statement.{statement}
-use Rattle.trace.proofs.count.count64.Tie as tie
+use Rattle.count.specs.Count.{pairAt}
+use Rattle.count.proofs.Counting.{pairs-most}
+use Rattle.count.proofs.count64.Statement.{statement}
+use Rattle.count.proofs.count64.Tie as tie
 
 abbrev Inv-loop : tie.InvT-loop
 Inv-loop px w k from n₀ i₀ n i = (i ≤ 64) × (n ≡ sum (λ j. pairAt px w k (from + j)) i)

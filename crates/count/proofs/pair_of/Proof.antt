@@ -1,14 +1,14 @@
--- `trace::count::pair_of` meets its contract. Assumes nothing.
+-- `count::pair_of` meets its contract. Assumes nothing.
 use mathlib.Core.Path.{_≡_, ap, _∙_}
 use mathlib.Core.Bool.{Bool}
 use Prim.Native.Nat.{ℕ, _+_, _≤_}
 use native.Mathlib.Omega.{arith}
 use lib.Dec.{ltb}
 use Rattle.tally.specs.Tally.{one, differ}
-use Rattle.trace.proofs.Places.{unlike}
+use Rattle.count.proofs.Flat.{unlike}
 use borrow.Author.Needs.{needs}
-use Rattle.trace.proofs.count.pair_of.Statement.{statement}
-use Rattle.trace.proofs.count.pair_of.Tie as tie
+use Rattle.count.proofs.pair_of.Statement.{statement}
+use Rattle.count.proofs.pair_of.Tie as tie
 
 one-if-requires : tie.Need-one-if-requires
 one-if-requires c κs = search needs

@@ -8,8 +8,8 @@ ghost use Rattle.tally.specs.Tally.{sum, one, differ};
 ghost use Rattle.matte.specs.Layout.{eight};
 ghost use Rattle.matte.specs.Picture.{picture, levelsFit};
 ghost use Rattle.outline.specs.List.{listed};
-ghost use Rattle.trace.specs.Trace.{Ground, crossings};
-ghost use Rattle.trace.specs.Count.{pair, pairAt};
+ghost use Rattle.refuse.specs.Shape.{Ground};
+ghost use Rattle.count.specs.Count.{crossings, pair, pairAt};
 
 // 1 for true.
 pub fn one_if(b: bool) -> u8

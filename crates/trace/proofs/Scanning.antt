@@ -73,7 +73,7 @@ module _ (P : Picture) (G : Ground P) (k : ℕ) where
 
     pub fresh-lead : (i : ℕ) → i + 1 < size P → Scanned P B k i m → fresh (P .px) work k i ≡ true → isLead P k (2 * i) ≡ true
     fresh-lead i l M e =
-        let o : cutAt P k (2 * i) ≡ true = crossed-cut i l (and-1 _ _ e) in
+        let o : cutAt P k (2 * i) ≡ true = crossed-cut P G k i l (and-1 _ _ e) in
         sym (place-tell P B k i m M o) ∙ ap not (mark-is i) ∙ and-2 (differ (high P k i) (high P k (i + 1))) _ e
 
     pub stale : (i : ℕ) → Scanned P B k i m → fresh (P .px) work k i ≡ false → isLead P k (2 * i) ≡ false
@@ -81,7 +81,7 @@ module _ (P : Picture) (G : Ground P) (k : ℕ) where
         by-test (isLead P k (2 * i))
         (λ t.
         let o : cutAt P k (2 * i) ≡ true = lead-cut P B k (2 * i) t in
-        no (both (cut-crossed i o .1) (sym (ap not (mark-is i)) ∙ place-tell P B k i m M o ∙ t)) e)
+        no (both (cut-crossed P G k i o .1) (sym (ap not (mark-is i)) ∙ place-tell P B k i m M o ∙ t)) e)
         (λ t. t)
 
     -- from a place over those that are not fresh

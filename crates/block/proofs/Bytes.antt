@@ -67,7 +67,7 @@ below-drop m n l b i h = rw (getD-drop n l i 0) (b (n + i) (omega (arith, length
 pub below-take : (m n : ℕ) (l : List ℕ) → Below m l → Below m (take n l)
 below-take m n l b i h = rw (getD-take n l i 0 (omega (arith, length-take n l))) (b i (omega (arith, length-take n l)))
 
-first2 : (l : List ℕ) → 2 ≤ length l → take 2 l ≡ getD l 0 0 ∷ getD l 1 0 ∷ []
+pub first2 : (l : List ℕ) → 2 ≤ length l → take 2 l ≡ getD l 0 0 ∷ getD l 1 0 ∷ []
 first2 [] h = absurd (omega arith)
 first2 (a ∷ []) h = absurd (omega arith)
 first2 (a ∷ b ∷ l) h = refl

@@ -1,6 +1,7 @@
 -- The check, one byte at a time, and what it tells apart. Assumes nothing.
 -- Main laws: `stirred-more` one byte more, `stirred-all` no byte left; `stir-start`, `stir-byte` each step is injective in the sum and in the byte; `start-told` equal payloads with different starts
---   have different sums; `byte-told` payloads that differ in one byte have, `set-told` the same for a byte stored; `number-told` equal payloads in blocks of different number have different checks.
+--   have different sums; `byte-told` payloads that differ in one byte have, `set-told` the same for a byte stored; `number-told` equal payloads in blocks of different number have different checks;
+--   `check-below` a check has 32 bits.
 use mathlib.Core.Path.{_≡_, refl, sym, ap, _∙_}
 use mathlib.Core.List.{List, [], _∷_, _++_}
 use Prim.Native.Nat.{ℕ, zero, suc, _+_, _*_, _/_, _%_, _≤_, _<_}
@@ -45,6 +46,15 @@ stir-byte s a b g h e = omega arith
 
 pub stir-below : (s b : ℕ) → stir s b < 4294967296
 stir-below s b = omega arith
+
+pub stirred-below : (s : ℕ) (l : List ℕ) → s < 4294967296 → stirred s l < 4294967296
+unfolding stirred
+stirred-below s [] h = h
+stirred-below s (b ∷ l) h = stirred-below (stir s b) l (stir-below s b)
+
+pub check-below : (n : ℕ) (p : List ℕ) → check n p < 4294967296
+unfolding check
+check-below n p = stirred-below (n % 4294967296) p (omega arith)
 
 -- the sum's start is told by the sum
 pub start-told : (s t : ℕ) (l : List ℕ) → s < 4294967296 → t < 4294967296 → stirred s l ≡ stirred t l → s ≡ t

@@ -26,7 +26,7 @@ onto x y was b i n l e =
     ap (λ (z : List ℕ). take i z ++ y ++ drop (i + n) z) e
     ∙ ap (λ (z : List ℕ). z ++ y ++ drop (i + n) (x ++ drop i was)) (take-at x (drop i was) i l)
     ∙ ap (λ (z : List ℕ). (x ++ y) ++ z)
-    (ap (λ (j : ℕ). drop (j + n) (x ++ drop i was)) (sym l) ∙ drop-append-add x (drop i was) n ∙ drop-drop n i was)
+        (ap (λ (j : ℕ). drop (j + n) (x ++ drop i was)) (sym l) ∙ drop-append-add x (drop i was) n ∙ drop-drop n i was)
 
 module _ (s : List ℕ) (from : ℕ) where
   pub zero-start : s ≡ take from s ++ replicate (from - from) 0 ++ drop from s
@@ -49,8 +49,8 @@ module _ (s : List ℕ) (from : ℕ) where
       ∙ ap (λ (j : ℕ). p ++ (0 ∷ drop j s)) (sym (add-one i))
       ∙ sym (append-snoc p 0 (drop (i + 1) s))
       ∙ ap (λ (t : List ℕ). t ++ drop (i + 1) s)
-      (append-assoc (take from s) (replicate (i - from) 0) (0 ∷ [])
-      ∙ ap (λ (t : List ℕ). take from s ++ t) (replicate-append-replicate (i - from) 1 0 ∙ ap (λ (m : ℕ). replicate m 0) n))
+          (append-assoc (take from s) (replicate (i - from) 0) (0 ∷ [])
+          ∙ ap (λ (t : List ℕ). take from s ++ t) (replicate-append-replicate (i - from) 1 0 ∙ ap (λ (m : ℕ). replicate m 0) n))
 
   pub zero-end : (b : List ℕ) (i : ℕ) → from ≤ length s → i ≡ 508 → b ≡ take from s ++ replicate (i - from) 0 ++ drop i s → b ≡ pad (take from s) ++ drop 508 s
   zero-end b i h q e =

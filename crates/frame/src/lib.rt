@@ -10,13 +10,14 @@ ghost use Prim.Native.Nat.{ℕ, suc, _+_, _*_, _≤_, _<_};
 ghost use lib.Dec.{ltb};
 ghost use lib.ListN.{length, getD};
 ghost use Rattle.tally.specs.Tally.{sum};
+ghost use Rattle.fill.specs.Filled.{Filled};
 ghost use Rattle.matte.specs.Layout.{eight};
 ghost use Rattle.matte.specs.Picture.{picture, onBorder};
 ghost use Rattle.matte.specs.Refusal.{row, verdict, sidesRow, samplesRow};
 ghost use Rattle.refuse.specs.Shape.{Sides};
 ghost use Rattle.frame.specs.Frame.{borderSamples, median, frameAnswer, frameRoom};
 ghost use Rattle.frame.specs.Counts.{seen, histogram, halfway};
-ghost use Rattle.frame.specs.Runs.{Upto, framing};
+ghost use Rattle.frame.specs.Framing.{framing};
 
 // Counts in the samples from `from` up to `to`, all of them on the border.
 fn count_run(w: usize, h: usize, px: &[u8], from: usize, to: usize, t: &mut [u32; 256])
@@ -81,7 +82,7 @@ fn border_median(w: usize, h: usize, px: &[u8]) -> u8
 // Writes v from `from` up to `stop`.
 fn fill_run(room: &mut [u8], from: usize, stop: usize, v: u8)
     requires { ⌜ (from ≤ stop) × (stop ≤ length (now room)) ⌝ }
-    ensures { λ _. ⌜ ((f : ℕ → ℕ) (d : List ℕ) → Upto f d from (now (room .entry)) → ((j : ℕ) → from ≤ j → j < stop → v ≡ f j) → Upto f d stop (now (room .exit))) ⌝ }
+    ensures { λ _. ⌜ ((f : ℕ → ℕ) (d : List ℕ) → Filled f d from (now (room .entry)) → ((j : ℕ) → from ≤ j → j < stop → v ≡ f j) → Filled f d stop (now (room .exit))) ⌝ }
 {
     let mut i = from;
     while i < stop {
@@ -93,7 +94,7 @@ fn fill_run(room: &mut [u8], from: usize, stop: usize, v: u8)
 // Copies the samples from `from` up to `to`.
 fn copy_run(px: &[u8], room: &mut [u8], from: usize, to: usize)
     requires { ⌜ (from ≤ to) × (to ≤ length (now room)) × (to ≤ length (now px)) ⌝ }
-    ensures { λ _. ⌜ ((f : ℕ → ℕ) (d : List ℕ) → Upto f d from (now (room .entry)) → ((j : ℕ) → from ≤ j → j < to → getD (now (px .entry)) j 0 ≡ f j) → Upto f d to (now (room .exit))) ⌝ }
+    ensures { λ _. ⌜ ((f : ℕ → ℕ) (d : List ℕ) → Filled f d from (now (room .entry)) → ((j : ℕ) → from ≤ j → j < to → getD (now (px .entry)) j 0 ≡ f j) → Filled f d to (now (room .exit))) ⌝ }
 {
     let mut i = from;
     while i < to {
@@ -105,7 +106,7 @@ fn copy_run(px: &[u8], room: &mut [u8], from: usize, to: usize)
 // Writes the picture with v on its border.
 fn frame_rows(w: usize, h: usize, px: &[u8], v: u8, room: &mut [u8])
     requires { ⌜ (Sides w h) × (length (now px) ≡ w * h) × (w * h ≤ length (now room)) ⌝ }
-    ensures { λ _. ⌜ Upto (framing w h v (now (px .entry))) (now (room .entry)) (w * h) (now (room .exit)) ⌝ }
+    ensures { λ _. ⌜ Filled (framing w h v (now (px .entry))) (now (room .entry)) (w * h) (now (room .exit)) ⌝ }
 {
     let n = area(w, h);
     let mut i = w + 1;

@@ -1,6 +1,15 @@
 pub mod Five
+pub mod Chain
 pub mod Words
 pub mod Blocks
 pub mod Ascend
 pub mod Head
 pub mod Write
+pub mod Zeros
+pub mod Checks
+pub mod Laid
+pub mod Taken
+pub mod Read
+pub mod There
+pub mod Round
+pub mod Back

@@ -21,7 +21,7 @@ unfolding wordBytes
 bytes-append [] b = refl
 bytes-append (u ∷ a) b = ap (λ (l : List ℕ). le4 u ++ l) (bytes-append a b) ∙ sym (append-assoc (le4 u) (wordBytes a) (wordBytes b))
 
-bytes-one : (u : ℕ) → wordBytes (u ∷ []) ≡ le4 u
+pub bytes-one : (u : ℕ) → wordBytes (u ∷ []) ≡ le4 u
 unfolding wordBytes
 bytes-one u = append-nil (le4 u)
 

@@ -106,7 +106,8 @@ module _ (w h v : ℕ) (ks ws : List ℕ) where
         → (record { number = t .number; place = t .place; words = 0; lines = 0 } ≡ writeAnswer w h v ks ws room) × (room ≡ writeRoom w h v ks ws room)
     write-refused t e z =
         let T = writeVerdict w h v ks ws room in
-        let y : T .number ≡ 0 → ⊥ = λ q. z (ap (λ (u : Verdict). u .number) e ∙ q) in (
+        let y : T .number ≡ 0 → ⊥ = λ q. z (ap (λ (u : Verdict). u .number) e ∙ q) in
+        (
           ap (λ (u : Verdict). record { number = u .number; place = u .place; words = 0; lines = 0 }) e ∙ sym (refused-answer T 0 0 y),
           sym (refused-after T room (file w h v ks ws ++ drop (fileLength w h v ks ws) room) y),
         )
@@ -127,11 +128,12 @@ module _ (w h v : ℕ) (ks ws : List ℕ) where
         ap (λ (j : ℕ). drop j (b ++ drop 512 room)) k
         ∙ drop-append-add b (drop 512 room) (512 * m)
         ∙ drop-drop (512 * m) 512 room
-        ∙ ap (λ (j : ℕ). drop j room) (let q : 512 + 512 * m ≡ 512 * (1 + m) = omega arith in q) in (
+        ∙ ap (λ (j : ℕ). drop j room) (let q : 512 + 512 * m ≡ 512 * (1 + m) = omega arith in q) in
+        (
           sym (done-answer T 0 0 z),
           f
-              ∙ ap (λ (x : List ℕ). (x ++ wordBlocks 1 m ws) ++ drop (512 * (1 + m)) (b ++ drop 512 room)) (t ∙ e)
-              ∙ ap (λ (x : List ℕ). (block 0 (pad (header w h v ks n)) ++ wordBlocks 1 m ws) ++ x) d
-              ∙ ap (λ (x : List ℕ). x ++ drop (512 * (1 + m)) room) (sym (file-is w h v ks ws))
-              ∙ sym (done-after T room (file w h v ks ws ++ drop (fileLength w h v ks ws) room) z),
+          ∙ ap (λ (x : List ℕ). (x ++ wordBlocks 1 m ws) ++ drop (512 * (1 + m)) (b ++ drop 512 room)) (t ∙ e)
+          ∙ ap (λ (x : List ℕ). (block 0 (pad (header w h v ks n)) ++ wordBlocks 1 m ws) ++ x) d
+          ∙ ap (λ (x : List ℕ). x ++ drop (512 * (1 + m)) room) (sym (file-is w h v ks ws))
+          ∙ sym (done-after T room (file w h v ks ws ++ drop (fileLength w h v ks ws) room) z),
         )

@@ -3,3 +3,11 @@ pub mod Parts
 pub mod West
 pub mod Takes
 pub mod Answers
+pub mod Turns
+pub mod Adds
+pub mod Along
+pub mod Layers
+pub mod States
+pub mod Grouping
+pub mod Ascent
+pub mod Levels

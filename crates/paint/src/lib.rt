@@ -1,24 +1,34 @@
 // Line part, membership and painting back.
+mod groups;
+mod layer;
+
+use crate::layer::add_levels;
 use edgel::code_of;
 use edgel::flagged;
 use matte::Answer;
 use matte::Verdict;
+use refuse::area;
+use refuse::levels_fit;
 use refuse::sides_fit;
 use words::first_bad_code;
+use words::first_bad_word;
 ghost use mathlib.Core.Path.{_≡_};
-ghost use mathlib.Core.Bool.{not, _&&_};
+ghost use mathlib.Core.Bool.{true, not, _&&_};
 ghost use mathlib.Core.List.{List, [], _∷_};
 ghost use Prim.Native.Nat.{ℕ, _+_, _*_, _≤_, _<_};
 ghost use lib.Dec.{ltb};
 ghost use lib.ListN.{length, take, drop};
 ghost use Rattle.tally.specs.Tally.{one};
+ghost use Rattle.fill.specs.Filled.{Filled};
 ghost use Rattle.matte.specs.Layout.{eight};
-ghost use Rattle.matte.specs.Refusal.{row, verdict, sidesRow};
-ghost use Rattle.edgel.specs.Word.{codesRow};
+ghost use Rattle.matte.specs.Picture.{levelsFit};
+ghost use Rattle.matte.specs.Refusal.{row, verdict, sidesRow, levelsRow};
+ghost use Rattle.edgel.specs.Word.{codesRow, wordsFitRow};
 ghost use Rattle.refuse.specs.Shape.{Sides};
 ghost use Rattle.paint.specs.Part.{rest, part};
 ghost use Rattle.paint.specs.Span.{whole, inSpan};
 ghost use Rattle.paint.specs.Member.{inside, memberAnswer};
+ghost use Rattle.paint.specs.Paint.{paintAnswer, paintRoom};
 
 // The answer of membership.
 #[repr(C)]
@@ -66,7 +76,7 @@ pub fn line_part(words: &[u32], n: usize) -> &[u32]
     let a = start_of(words, n);
     if a < words.len() {
         let b = a + 1;
-        let e = b + run_of(&words[b..]);
+        let e = a + 1 + run_of(&words[b..]);
         return &words[a..e];
     }
     &words[a..a]
@@ -172,5 +182,82 @@ pub fn member(w: usize, h: usize, words: &[u32], n: usize, x: usize, y: usize) -
             lines: 0,
         },
         inside: b,
+    }
+}
+
+// The first refusal of 1 3 8 9 that applies.
+fn paint_verdict(w: usize, h: usize, levels: &[u8], words: &[u32], places: usize) -> Verdict
+    ensures { λ r. ⌜ (r ≡ verdict (sidesRow w h ∷ levelsRow eight (now (levels .entry)) ∷ wordsFitRow eight w h (now (levels .entry)) (now (words .entry)) ∷ row 9 (ltb places (w * h)) ∷ [])) × (r .number ≡ 0 → (Sides w h) × (levelsFit eight (now (levels .entry)) ≡ true) × (w * h ≤ places)) ⌝ }
+{
+    if !sides_fit(w, h) {
+        return Verdict {
+            number: 1,
+            place: 0,
+        };
+    }
+    if !levels_fit(levels) {
+        return Verdict {
+            number: 3,
+            place: 0,
+        };
+    }
+    let i = first_bad_word(w, h, levels, words);
+    if i < words.len() {
+        return Verdict {
+            number: 8,
+            place: i,
+        };
+    }
+    if places < area(w, h) {
+        return Verdict {
+            number: 9,
+            place: 0,
+        };
+    }
+    Verdict {
+        number: 0,
+        place: 0,
+    }
+}
+
+// Sets the first n samples to 0.
+fn blank(room: &mut [u8], n: usize)
+    requires { ⌜ n ≤ length (now room) ⌝ }
+    ensures { λ _. ⌜ Filled (λ i. 0) (now (room .entry)) n (now (room .exit)) ⌝ }
+{
+    let mut i = 0;
+    while i < n {
+        room[i] = 0;
+        i += 1;
+    }
+}
+
+// The samples that the words paint, with v on the border, in the first w·h places of `room`.
+pub fn paint_words(
+    w: usize,
+    h: usize,
+    v: u8,
+    levels: &[u8],
+    words: &[u32],
+    room: &mut [u8],
+) -> Answer
+    ensures { λ r. ⌜ (r ≡ paintAnswer eight w v (now (levels .entry)) (now (words .entry)) h (now (room .entry))) × (now (room .exit) ≡ paintRoom eight w v (now (levels .entry)) (now (words .entry)) h (now (room .entry))) ⌝ }
+{
+    let p = paint_verdict(w, h, levels, words, room.len());
+    if p.number != 0 {
+        return Answer {
+            number: p.number,
+            place: p.place,
+            words: 0,
+            lines: 0,
+        };
+    }
+    blank(room, area(w, h));
+    add_levels(w, h, v, levels, words, room);
+    Answer {
+        number: 0,
+        place: 0,
+        words: 0,
+        lines: 0,
     }
 }

@@ -5,17 +5,19 @@ use Prim.Native.Nat.{ℕ, _+_, _*_, _≤_, _<_, _-_}
 use native.Mathlib.Omega.{arith}
 use borrow.Author.Needs.{needs}
 use lib.ListN.{length}
-use Rattle.frame.specs.Runs.{Upto, framing}
+use Rattle.fill.specs.Filled.{Filled}
+use Rattle.frame.specs.Framing.{framing}
 use Rattle.frame.proofs.Edge.{off-middle}
 use Rattle.frame.proofs.Rounds.{rows-le, first-on, ends-on, last-on}
-use Rattle.frame.proofs.Writes.{upto-none, framing-on, framing-off}
+use Rattle.fill.proofs.Fills.{filled-none}
+use Rattle.frame.proofs.Writes.{framing-on, framing-off}
 use Rattle.frame.proofs.frame_rows.Statement.{statement}
 use Rattle.frame.proofs.frame_rows.Tie as tie
 
 abbrev Inv-loop : tie.InvT-loop
 Inv-loop w h px v room₀ n i₀ y₀ room i y =
     (1 ≤ y) × (y + 1 ≤ h) × (i ≡ y * w + 1) × (length room ≡ length room₀)
-    × ((d : List ℕ) → Upto (framing w h v px) d i₀ room₀ → Upto (framing w h v px) d i room)
+    × ((d : List ℕ) → Filled (framing w h v px) d i₀ room₀ → Filled (framing w h v px) d i room)
 
 abbrev μ-loop : tie.MeasureT-loop
 μ-loop w h px v room₀ n i₀ y₀ room i y = h - y
@@ -146,7 +148,7 @@ returns c =
     rw (n .ensures .0) at
     (c .before .before .fill-run3 .ensures F (a .room .now)
     (l .loop .inv .4 (a .room .now)
-    (l .before .before .before .fill-run .ensures F (a .room .now) (upto-none F (a .room .now)) (λ j p q. framing-on _ _ _ _ j (first-on _ _ S j p q))))
+    (l .before .before .before .fill-run .ensures F (a .room .now) (filled-none F (a .room .now)) (λ j p q. framing-on _ _ _ _ j (first-on _ _ S j p q))))
     (λ j p q. framing-on _ _ _ _ j (last-on _ _ S (l .loop .y) (l .loop .i) _ j e (l .loop .inv .2) (n .ensures .0) p q)))
 
 pub frame-rows-spec : {M : Type 1} → statement M

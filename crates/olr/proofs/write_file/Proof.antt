@@ -12,9 +12,9 @@ use Rattle.olr.proofs.write_file.Statement.{statement}
 use Rattle.olr.proofs.write_file.Tie as tie
 use Rattle.olr.proofs.write_file.Reads as reads
 use Rattle.olr.proofs.write_file.Lts as lts
-use Rattle.olr.proofs.put_head.Reads as put-head-reads
-use Rattle.olr.proofs.put_words.Reads as put-words-reads
-use Rattle.olr.proofs.write_verdict.Reads as write-verdict-reads
+use Rattle.olr.proofs.put.put_head.Reads as put-head-reads
+use Rattle.olr.proofs.put.put_words.Reads as put-words-reads
+use Rattle.olr.proofs.put.write_verdict.Reads as write-verdict-reads
 
 write-verdict-requires : tie.Need-write-verdict-requires
 write-verdict-requires c κs = search needs

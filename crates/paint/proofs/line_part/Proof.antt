@@ -18,6 +18,9 @@ start-of-requires c κs = search needs
 add-b : tie.Need-add-b
 add-b c = search needs
 
+add-e : tie.Need-add-e
+add-e c = search needs
+
 mul-run-of : tie.Need-mul-run-of
 mul-run-of c = search needs
 
@@ -33,8 +36,8 @@ part-run-of-end c = search needs
 run-of-requires : tie.Need-run-of-requires
 run-of-requires c κs = search needs
 
-add-e : tie.Need-add-e
-add-e c = search needs
+add-e-2 : tie.Need-add-e-2
+add-e-2 c = search needs
 
 mul-result : tie.Need-mul-result
 mul-result c = search needs
@@ -89,12 +92,13 @@ line-part-spec =
     (tie.spec
     start-of-requires
     add-b
+    add-e
     mul-run-of
     sub-run-of
     part-run-of-start
     part-run-of-end
     run-of-requires
-    add-e
+    add-e-2
     mul-result
     sub-result
     part-result-start

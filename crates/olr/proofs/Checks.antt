@@ -1,0 +1,29 @@
+-- The check of each block of a file. Assumes nothing.
+-- Main laws: `check-part` the test of a block is that of the part of the file; `bad-stop`, `bad-end` the first wrong block.
+use mathlib.Core.Path.{_≡_, refl, sym, ap, ap₂, _∙_}
+use mathlib.Core.Bool.{Bool, true, false, not}
+use mathlib.Core.List.{List}
+use Prim.Native.Nat.{ℕ, _+_, _*_, _≤_, _<_}
+use native.Mathlib.Omega.{arith}
+use lib.Dec.{eqb}
+use lib.ListN.{length, take, drop}
+use lib.Seq.{take-take}
+use Rattle.tally.specs.Tally.{firstFrom}
+use Rattle.tally.proofs.First.{from-is}
+use Rattle.block.specs.Block.{num4, check}
+use Rattle.block.proofs.Bytes.{num4-take, num4-drop}
+use Rattle.olr.specs.Read.{blocks, checkFits}
+
+pub check-part : (f : List ℕ) (i k : ℕ) (t : Bool) → k ≡ 512 → t ≡ eqb (num4 (take k (drop (512 * i) f)) 508) (check i (take 508 (take k (drop (512 * i) f)))) → t ≡ checkFits f i
+check-part f i k t e h =
+    let b = drop (512 * i) f in
+    h
+    ∙ ap (λ (n : ℕ). eqb (num4 (take n b) 508) (check i (take 508 (take n b)))) e
+    ∙ ap₂ eqb (num4-take 512 b 508 (omega arith) ∙ num4-drop (512 * i) f 508) (ap (check i) (take-take 508 512 b (omega arith)))
+
+module _ (f : List ℕ) (i : ℕ) (before : (j : ℕ) → j < i → not (checkFits f j) ≡ false) where
+  pub bad-stop : i < blocks f → not (checkFits f i) ≡ true → i ≡ firstFrom (λ j. not (checkFits f j)) 0 (blocks f)
+  bad-stop h e = sym (from-is (λ j. not (checkFits f j)) 0 (blocks f) i (omega arith) (omega arith) (λ j _ l. before j l) (λ _. e))
+
+  pub bad-end : i ≡ blocks f → i ≡ firstFrom (λ j. not (checkFits f j)) 0 (blocks f)
+  bad-end h = sym (from-is (λ j. not (checkFits f j)) 0 (blocks f) i (omega arith) (omega arith) (λ j _ l. before j l) (λ l. absurd (omega arith)))

@@ -4,7 +4,7 @@
 //! numbers and slices over to one of them. `has` says yes to a call once its export is linked.
 //! Until then a call is left out by every group.
 
-use second::{Answer, Crossing, Piece, Read};
+use second::{Answer, Centre, Crossing, Piece, Read};
 
 use crate::calls::{Call, Calls};
 
@@ -12,7 +12,16 @@ use crate::calls::{Call, Calls};
 pub struct Library;
 
 /// The calls that are linked.
-const LINKED: &[Call] = &[Call::List, Call::Crossing];
+const LINKED: &[Call] = &[
+    Call::List,
+    Call::Frame,
+    Call::Crossing,
+    Call::Piece,
+    Call::Member,
+    Call::Paint,
+    Call::Write,
+    Call::Read,
+];
 
 /// The answer as the library lays it out.
 #[repr(C)]
@@ -40,12 +49,56 @@ struct ToldCrossing {
     y: f64,
 }
 
+/// A piece as the library lays it out.
+#[repr(C)]
+struct ToldPiece {
+    answer: Told,
+    kind: u32,
+    xs: f64,
+    ys: f64,
+    delta: f64,
+}
+
+/// A membership as the library lays it out.
+#[repr(C)]
+struct ToldMembership {
+    answer: Told,
+    inside: bool,
+}
+
+/// A stored outline as the library lays it out.
+#[repr(C)]
+struct ToldStored {
+    answer: Told,
+    width: u32,
+    height: u32,
+    border: u32,
+    count: u32,
+    levels: [u8; 255],
+}
+
 extern "C" {
     fn loafcanyon_list(
         w: usize, h: usize, px: *const u8, px_len: usize, levels: *const u8, levels_len: usize, work: *mut u8,
         work_len: usize, words: *mut u32, words_len: usize,
     ) -> Told;
     fn loafcanyon_crossing(w: usize, h: usize, px: *const u8, px_len: usize, level: u8, code: u32) -> ToldCrossing;
+    fn loafcanyon_piece(
+        w: usize, h: usize, px: *const u8, px_len: usize, level: u8, x: usize, y: usize,
+    ) -> ToldPiece;
+    fn loafcanyon_frame(w: usize, h: usize, px: *const u8, px_len: usize, room: *mut u8, room_len: usize) -> Told;
+    fn loafcanyon_member(
+        w: usize, h: usize, words: *const u32, words_len: usize, n: usize, x: usize, y: usize,
+    ) -> ToldMembership;
+    fn loafcanyon_paint(
+        w: usize, h: usize, v: u8, levels: *const u8, levels_len: usize, words: *const u32, words_len: usize,
+        room: *mut u8, room_len: usize,
+    ) -> Told;
+    fn loafcanyon_write(
+        w: usize, h: usize, v: u8, levels: *const u8, levels_len: usize, words: *const u32, words_len: usize,
+        file: *mut u8, file_len: usize,
+    ) -> Told;
+    fn loafcanyon_read(file: *const u8, file_len: usize, words: *mut u32, words_len: usize) -> ToldStored;
 }
 
 #[allow(unused_variables)]
@@ -79,7 +132,7 @@ impl Calls for Library {
     }
 
     fn frame(&self, w: usize, h: usize, px: &[u8], room: &mut [u8]) -> Answer {
-        unlinked()
+        unsafe { loafcanyon_frame(w, h, px.as_ptr(), px.len(), room.as_mut_ptr(), room.len()) }.into()
     }
 
     fn crossing(&self, w: usize, h: usize, px: &[u8], level: u8, code: u32) -> Crossing {
@@ -88,7 +141,16 @@ impl Calls for Library {
     }
 
     fn piece(&self, w: usize, h: usize, px: &[u8], level: u8, x: usize, y: usize) -> (Answer, Piece) {
-        unlinked()
+        let t = unsafe { loafcanyon_piece(w, h, px.as_ptr(), px.len(), level, x, y) };
+        let centre = Centre { xs: t.xs, ys: t.ys };
+        let piece = match t.kind {
+            0 => Piece::Refused,
+            1 => Piece::Straight,
+            2 => Piece::Corner(centre),
+            3 => Piece::Branch(centre, t.delta),
+            other => panic!("the library has no piece of kind {other}"),
+        };
+        (t.answer.into(), piece)
     }
 
     fn line_part<'a>(&self, words: &'a [u32], n: usize) -> &'a [u32] {
@@ -96,19 +158,30 @@ impl Calls for Library {
     }
 
     fn member(&self, w: usize, h: usize, words: &[u32], n: usize, x: usize, y: usize) -> (Answer, bool) {
-        unlinked()
+        let t = unsafe { loafcanyon_member(w, h, words.as_ptr(), words.len(), n, x, y) };
+        (t.answer.into(), t.inside)
     }
 
     fn paint(&self, w: usize, h: usize, v: u8, levels: &[u8], words: &[u32], room: &mut [u8]) -> Answer {
-        unlinked()
+        let (l, ln, u, un) = (levels.as_ptr(), levels.len(), words.as_ptr(), words.len());
+        unsafe { loafcanyon_paint(w, h, v, l, ln, u, un, room.as_mut_ptr(), room.len()) }.into()
     }
 
     fn write(&self, w: usize, h: usize, v: u8, levels: &[u8], words: &[u32], file: &mut [u8]) -> Answer {
-        unlinked()
+        let (l, ln, u, un) = (levels.as_ptr(), levels.len(), words.as_ptr(), words.len());
+        unsafe { loafcanyon_write(w, h, v, l, ln, u, un, file.as_mut_ptr(), file.len()) }.into()
     }
 
     fn read(&self, file: &[u8], words: &mut [u32]) -> Read {
-        unlinked()
+        let t = unsafe { loafcanyon_read(file.as_ptr(), file.len(), words.as_mut_ptr(), words.len()) };
+        Read {
+            answer: t.answer.into(),
+            w: t.width,
+            h: t.height,
+            border: t.border as u8,
+            count: t.count,
+            levels: t.levels,
+        }
     }
 
     fn listing(&self, input: &[u8]) -> Vec<u8> {

@@ -1,37 +1,130 @@
 // The base calls as functions for C: thin, each with the call's own contract.
 use crossing::Crossing;
 use crossing::crossing_at;
+use frame::frame_picture;
 use matte::Answer;
+use olr::Stored;
+use olr::read_file;
+use olr::write_file;
+use paint::Membership;
+use paint::member;
+use paint::paint_words;
+use piece::Found;
+use piece::Piece;
+use piece::piece_at;
 use trace::list;
 ghost use mathlib.Core.Path.{_≡_};
 ghost use Rattle.matte.specs.Layout.{eight};
 ghost use Rattle.matte.specs.Picture.{picture};
 ghost use Rattle.outline.specs.List.{listAnswer, listWork, listWords};
 ghost use Rattle.crossing.specs.Crossing.{crossingAnswer};
+ghost use Rattle.piece.specs.Piece.{pieceAnswer};
+ghost use Rattle.frame.specs.Frame.{frameAnswer, frameRoom};
+ghost use Rattle.paint.specs.Member.{memberAnswer};
+ghost use Rattle.paint.specs.Paint.{paintAnswer, paintRoom};
+ghost use Rattle.olr.specs.File.{writeAnswer, writeRoom};
+ghost use Rattle.olr.specs.Read.{readAnswer, readWords};
+ghost use Rattle.host.specs.Piece.{toldPiece};
+
+// The piece call's answer as plain numbers.
+#[repr(C)]
+pub struct ToldPiece {
+    pub answer: Answer,
+    pub kind: u32,
+    pub xs: f64,
+    pub ys: f64,
+    pub delta: f64,
+}
+
+fn told(f: Found) -> ToldPiece
+    ensures { λ r. ⌜ r ≡ toldPiece f ⌝ }
+{
+    let a = f.answer;
+    let p = f.piece;
+    match p {
+        Piece::Refused => ToldPiece {
+            answer: a,
+            kind: 0,
+            xs: 0u32 as f64,
+            ys: 0u32 as f64,
+            delta: 0u32 as f64,
+        },
+        Piece::Straight => ToldPiece {
+            answer: a,
+            kind: 1,
+            xs: 0u32 as f64,
+            ys: 0u32 as f64,
+            delta: 0u32 as f64,
+        },
+        Piece::Corner(z) => ToldPiece {
+            answer: a,
+            kind: 2,
+            xs: z.xs,
+            ys: z.ys,
+            delta: 0u32 as f64,
+        },
+        Piece::Branch(z, d) => ToldPiece {
+            answer: a,
+            kind: 3,
+            xs: z.xs,
+            ys: z.ys,
+            delta: d,
+        },
+    }
+}
 
 #[no_mangle]
-pub extern "C" fn loafcanyon_list(
-    w: usize,
-    h: usize,
-    px: &[u8],
-    levels: &[u8],
-    work: &mut [u8],
-    words: &mut [u32],
-) -> Answer
+pub extern "C" fn loafcanyon_list(w: usize, h: usize, px: &[u8], levels: &[u8], work: &mut [u8], words: &mut [u32]) -> Answer
     ensures { λ r. ⌜ (r ≡ listAnswer eight (picture w h (now (px .entry))) (now (levels .entry)) (now (work .entry)) (now (words .entry))) × (now (work .exit) ≡ listWork eight (picture w h (now (px .entry))) (now (levels .entry)) (now (work .entry)) (now (words .entry))) × (now (words .exit) ≡ listWords eight (picture w h (now (px .entry))) (now (levels .entry)) (now (work .entry)) (now (words .entry))) ⌝ }
 {
     list(w, h, px, levels, work, words)
 }
 
 #[no_mangle]
-pub extern "C" fn loafcanyon_crossing(
-    w: usize,
-    h: usize,
-    px: &[u8],
-    level: u8,
-    code: u32,
-) -> Crossing
+pub extern "C" fn loafcanyon_crossing(w: usize, h: usize, px: &[u8], level: u8, code: u32) -> Crossing
     ensures { λ r. ⌜ r ≡ crossingAnswer (picture w h (now (px .entry))) level code eight ⌝ }
 {
     crossing_at(w, h, px, level, code)
+}
+
+#[no_mangle]
+pub extern "C" fn loafcanyon_piece(w: usize, h: usize, px: &[u8], level: u8, x: usize, y: usize) -> ToldPiece
+    ensures { λ r. ⌜ r ≡ toldPiece (pieceAnswer (picture w h (now (px .entry))) level x y eight) ⌝ }
+{
+    told(piece_at(w, h, px, level, x, y))
+}
+
+#[no_mangle]
+pub extern "C" fn loafcanyon_frame(w: usize, h: usize, px: &[u8], room: &mut [u8]) -> Answer
+    ensures { λ r. ⌜ (r ≡ frameAnswer eight (picture w h (now (px .entry))) (now (room .entry))) × (now (room .exit) ≡ frameRoom eight (picture w h (now (px .entry))) (now (room .entry))) ⌝ }
+{
+    frame_picture(w, h, px, room)
+}
+
+#[no_mangle]
+pub extern "C" fn loafcanyon_member(w: usize, h: usize, words: &[u32], n: usize, x: usize, y: usize) -> Membership
+    ensures { λ r. ⌜ r ≡ memberAnswer eight w h (now (words .entry)) n x y ⌝ }
+{
+    member(w, h, words, n, x, y)
+}
+
+#[no_mangle]
+pub extern "C" fn loafcanyon_paint(w: usize, h: usize, v: u8, levels: &[u8], words: &[u32], room: &mut [u8]) -> Answer
+    ensures { λ r. ⌜ (r ≡ paintAnswer eight w v (now (levels .entry)) (now (words .entry)) h (now (room .entry))) × (now (room .exit) ≡ paintRoom eight w v (now (levels .entry)) (now (words .entry)) h (now (room .entry))) ⌝ }
+{
+    paint_words(w, h, v, levels, words, room)
+}
+
+#[no_mangle]
+pub extern "C" fn loafcanyon_write(w: usize, h: usize, v: u8, levels: &[u8], words: &[u32], file: &mut [u8]) -> Answer
+    ensures { λ r. ⌜ (r ≡ writeAnswer w h v (now (levels .entry)) (now (words .entry)) (now (file .entry))) × (now (file .exit) ≡ writeRoom w h v (now (levels .entry)) (now (words .entry)) (now (file .entry))) ⌝ }
+{
+    write_file(w, h, v, levels, words, file)
+}
+
+#[no_mangle]
+pub extern "C" fn loafcanyon_read(file: &[u8], words: &mut [u32]) -> Stored
+    ensures { λ r. ⌜ (r ≡ readAnswer (now (file .entry)) (now (words .entry))) × (now (words .exit) ≡ readWords (now (file .entry)) (now (words .entry))) ⌝ }
+{
+    read_file(file, words)
 }

@@ -1,3 +1,4 @@
 pub mod SmallPictures
 pub mod DemandThree
 pub mod DemandTwoList
+pub mod DemandTwoPaint

@@ -1,8 +1,9 @@
 -- A crossing lies strictly between the ends of its edgel. Assumes nothing.
--- Main laws: `between` on a crossed edgel 0 < num and num < den; `done-between` so in every answer that is not refused.
-use mathlib.Core.Path.{_≡_, refl}
+-- Main laws: `between` on a crossed edgel 0 < num and num < den; `height` there the surface is half a step above the level; `done-between`, `done-height` so in every answer that is not refused.
+use mathlib.Core.Path.{_≡_, refl, sym, ap, _∙_}
 use mathlib.Core.Bool.{true}
 use Prim.Native.Nat.{ℕ, _+_, _-_, _*_, _≤_, _<_}
+use native.Mathlib.Nat.{mul-comm, mul-assoc, mul-left-comm, mul-add, add-mul}
 use native.Mathlib.Omega.{arith}
 use lib.Dec.{ltb}
 use borrow.Author.Tests.{ltb-true, ltb-false, not-true}
@@ -26,6 +27,43 @@ numbers k a b d =
     let q : k < b = ltb-true k b (rw e at d) in
     (omega arith, omega arith))
 
+-- from the lower end a, with m of 2·d of the way gone and r left
+weighed : (a d m r : ℕ) → m + r ≡ 2 * d → 2 * (a * r + (a + d) * m) ≡ (m + 2 * a) * (2 * d)
+weighed a d m r e =
+    let p : a * m + a * r ≡ a * (2 * d) = sym (mul-add a m r) ∙ ap (λ (x : ℕ). a * x) e in
+    let q : (a + d) * m ≡ a * m + d * m = add-mul a d m in
+    let s : m * (2 * d) ≡ 2 * (m * d) = mul-left-comm m 2 d in
+    let t : m * d ≡ d * m = mul-comm m d in
+    let u : 2 * a * (2 * d) ≡ 2 * (a * (2 * d)) = mul-assoc 2 a (2 * d) in
+    let v : (m + 2 * a) * (2 * d) ≡ m * (2 * d) + 2 * a * (2 * d) = add-mul m (2 * a) (2 * d) in
+    let x : 2 * (a * r + (a + d) * m) ≡ 2 * (a * r) + 2 * ((a + d) * m) = mul-add 2 (a * r) ((a + d) * m) in
+    omega arith
+
+halfway : (k a b r : ℕ) →
+  differ (ltb k a) (ltb k b) ≡ true → apart (2 * k + 1) (2 * a) + r ≡ 2 * apart a b → 2 * (a * r + b * apart (2 * k + 1) (2 * a)) ≡ (2 * k + 1) * (2 * apart a b)
+halfway k a b r d z =
+    by-test (ltb k a)
+    (λ e.
+    let p : k < a = ltb-true k a e in
+    let q : b ≤ k = ltb-false k b (not-true (ltb k b) (rw e at d)) in
+    let m = apart (2 * k + 1) (2 * a) in
+    let g : b + apart a b ≡ a = omega arith in
+    let s : r + 2 * b ≡ 2 * k + 1 = omega arith in
+    let f : a * r + b * m ≡ b * m + a * r = omega arith in
+    ap (λ (x : ℕ). 2 * x) f ∙ rw (g, s) at (weighed b (apart a b) r m (omega arith)))
+    (λ e.
+    let p : a ≤ k = ltb-false k a e in
+    let q : k < b = ltb-true k b (rw e at d) in
+    let g : a + apart a b ≡ b = omega arith in
+    let s : apart (2 * k + 1) (2 * a) + 2 * a ≡ 2 * k + 1 = omega arith in
+    rw (g, s) at (weighed a (apart a b) (apart (2 * k + 1) (2 * a)) r z))
+
+-- the mean of the two ends, weighed by what is left and what is gone of the way, is k + ½ (01, Picture, levels, edgels)
+pub height : (P : Picture) (k c r : ℕ) →
+  crossed (high P k) (P .w) c ≡ true → num P k c + r ≡ den P k c → 2 * (at P (first c) * r + at P (second (P .w) c) * num P k c) ≡ (2 * k + 1) * den P k c
+unfolding crossed num den
+height P k c r e z = halfway k (at P (first c)) (at P (second (P .w) c)) r e z
+
 -- (01, Picture, levels, edgels)
 pub between : (P : Picture) (k c : ℕ) → crossed (high P k) (P .w) c ≡ true → (0 < num P k c) × (num P k c < den P k c)
 unfolding crossed num den
@@ -33,3 +71,7 @@ between P k c e = numbers k (at P (first c)) (at P (second (P .w) c)) e
 
 pub done-between : (P : Picture) (k c : ℕ) → crossingVerdict P k c eight .number ≡ 0 → (0 < num P k c) × (num P k c < den P k c)
 done-between P k c z = between P k c (fine P k c (crossingVerdict P k c eight) refl z .cut)
+
+pub done-height : (P : Picture) (k c r : ℕ) →
+  crossingVerdict P k c eight .number ≡ 0 → num P k c + r ≡ den P k c → 2 * (at P (first c) * r + at P (second (P .w) c) * num P k c) ≡ (2 * k + 1) * den P k c
+done-height P k c r z = height P k c r (fine P k c (crossingVerdict P k c eight) refl z .cut)

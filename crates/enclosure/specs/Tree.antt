@@ -17,11 +17,12 @@ unfoldable pub leadWords : (ℕ → Bool) → ℕ → ℕ → ℕ → List ℕ
 leadWords p base i zero = []
 leadWords p base i (suc m) = elim (p i) [ true ↦ (base + 2 * i) ∷ leadWords p base (suc i) m | false ↦ leadWords p base (suc i) m ]
 
--- among the first n numbers the number + 1 of the one that passes with the largest measure, 0 with none
+-- the measure of the one found, 0 with none
 abbrev pub measured : (ℕ → ℕ) → ℕ → ℕ
 measured f zero = 0
 measured f (suc m) = f m
 
+-- among the first n numbers the number + 1 of the one that passes with the largest measure, 0 with none
 unfoldable pub best : (ℕ → Bool) → (ℕ → ℕ) → ℕ → ℕ
 best p f zero = 0
 best p f (suc n) = let b = best p f n in cond (p n && ltb (measured f b) (f n)) (suc n) b

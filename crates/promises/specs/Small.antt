@@ -33,11 +33,13 @@ shown =
     ∷ lines pair 0
     ∷ lines pair 1
     ∷ lines (flat 3 3) 0
+    ∷ lines (flat 3 3) 5
     ∷ lines (flat 2 2) 0
+    ∷ lines (flat 2 2) 5
     ∷ (entries eight pair (0 ∷ 1 ∷ []) ∷ [])
     ∷ ((caseNumber (pieceAnswer pair 0 1 1 eight .piece) ∷ caseNumber (pieceAnswer pair 1 1 1 eight .piece) ∷ []) ∷ [])
     ∷ ((listVerdict eight (flat 2 2) (254 ∷ []) (replicate 4 0) [] .number ∷ listVerdict eight (flat 2 2) (255 ∷ []) (replicate 4 0) [] .number ∷ []) ∷ [])
-    ∷ ((frameVerdict eight (flat 2048 2) (replicate 4096 0) .number ∷ frameVerdict eight (flat 2049 2) (replicate 4098 0) .number ∷ []) ∷ [])
+    ∷ ((frameVerdict eight (flat 2048 2) (replicate 4096 0) .number ∷ frameVerdict eight (flat 2049 2) (replicate 4098 0) .number ∷ frameVerdict eight (flat 2 2049) (replicate 4098 0) .number ∷ []) ∷ [])
     ∷ []
 
 -- (a) to (j) (01, Small pictures to hold by proof)
@@ -49,8 +51,10 @@ expected =
     ∷ ((8 ∷ 11 ∷ 10 ∷ 3 ∷ []) ∷ (18 ∷ 21 ∷ 20 ∷ 13 ∷ []) ∷ [])
     ∷ []
     ∷ []
+    ∷ []
+    ∷ []
     ∷ ((0 ∷ 1 ∷ 1 ∷ []) ∷ [])
     ∷ ((3 ∷ 2 ∷ []) ∷ [])
     ∷ ((0 ∷ 3 ∷ []) ∷ [])
-    ∷ ((0 ∷ 1 ∷ []) ∷ [])
+    ∷ ((0 ∷ 1 ∷ 1 ∷ []) ∷ [])
     ∷ []

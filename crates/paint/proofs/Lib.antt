@@ -1,13 +1,5 @@
 pub mod Lines
 pub mod Parts
 pub mod West
-pub mod Takes
 pub mod Answers
-pub mod Turns
-pub mod Adds
-pub mod Along
-pub mod Layers
 pub mod States
-pub mod Grouping
-pub mod Ascent
-pub mod Levels

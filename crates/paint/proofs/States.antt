@@ -1,30 +1,29 @@
 -- The state of a sample at a level is what its words make it. Assumes nothing.
--- Main laws: `running-same` by the places alone; `state-is` running along the turned edgels of a row counts the words left of the sample.
+-- Main laws: `state-is` running along the turned edgels of a row counts the words left of the sample; `stacked-is` so a sample after all levels is the painted one; `painting-list` painted over blank samples,
+--   they are the painting.
 use mathlib.Core.Path.{_≡_, refl, sym, ap, _∙_}
 use mathlib.Core.Bool.{Bool, true, false, _&&_}
-use mathlib.Core.List.{List, [], _∷_}
-use Prim.Native.Nat.{ℕ, zero, suc, _+_, _*_, _/_, _≤_, _<_}
-use native.Mathlib.Nat.{add-zero}
+use mathlib.Core.List.{List, [], _∷_, _++_}
+use Prim.Native.Nat.{ℕ, zero, suc, _+_, _*_, _/_, _%_, _≤_, _<_}
+use native.Mathlib.Nat.{add-zero, mod-lt}
 use native.Mathlib.Omega.{arith}
 use lib.Dec.{eqb, ltb, leb}
+use lib.ListN.{length, drop}
 use borrow.Author.Tests.{eqb-true, eqb-false, eq-eqb, lt-ltb, le-ltb, le-leb, ltb-true, ltb-false, leb-true}
 use Rattle.tally.specs.Tally.{one, odd, differ, tally}
 use Rattle.tally.proofs.Test.{by-test, differ-assoc}
 use Rattle.tally.proofs.Parity.{odd-plus}
+use Rattle.fill.specs.Filled.{Filled}
+use Rattle.fill.proofs.Fills.{filled-list}
 use Rattle.matte.specs.Layout.{Layout}
 use Rattle.edgel.specs.Edgel.{horizontal}
 use Rattle.edgel.specs.Word.{codeOf, levelOf}
 use Rattle.edgel.specs.Beside.{westOf}
-use Rattle.paint.specs.Paint.{turns}
+use Rattle.paint.specs.Paint.{turns, painted, painting}
 use Rattle.paint.specs.Span.{inSpan}
-use Rattle.paint.specs.Layer.{hits, turnedAt, running}
-use Rattle.paint.proofs.Turns.{differ-none}
+use Rattle.layer.specs.Layer.{hits, turnedAt, running, stacked}
+use Rattle.layer.proofs.Turns.{differ-none}
 use Rattle.paint.proofs.West.{span-west}
-
-pub running-same : (a b : ℕ → Bool) (f : Bool) (lo n : ℕ) → ((j : ℕ) → j < n → a (lo + j) ≡ b (lo + j)) → running a f lo n ≡ running b f lo n
-unfolding running
-running-same a b f lo zero q = refl
-running-same a b f lo (suc n) q = rw (running-same a b f lo n (λ j h. q j (omega arith)), q n (omega arith))
 
 -- ---- one place more
 one-more : (h : Bool) (lo x p : ℕ) → one (h && (leb lo p && ltb p (lo + suc x))) ≡ one (h && (leb lo p && ltb p (lo + x))) + one (h && eqb (lo + x) p)
@@ -95,3 +94,22 @@ module _ (L : Layout) (w v : ℕ) (ks ws : List ℕ) (y k : ℕ) where
       ap (λ (b : Bool). differ b (odd u)) (state-is f x (omega arith))
       ∙ differ-assoc f (odd t) (odd u)
       ∙ ap (differ f) (sym (odd-plus t u) ∙ ap odd (sym (words-more x h ws)))
+
+module _ (L : Layout) (w v : ℕ) (ks ws : List ℕ) (z : 0 < w) where
+  tally-alike : (p q : ℕ → Bool) → ((k : ℕ) → p k ≡ q k) → (l : List ℕ) → tally p l ≡ tally q l
+  unfolding tally
+  tally-alike p q e [] = refl
+  tally-alike p q e (k ∷ l) = rw (e k, tally-alike p q e l)
+
+  pub stacked-is : (i : ℕ) → stacked L w v ks ws i ≡ painted L w v ks ws (i % w) (i / w)
+  unfolding stacked painted
+  stacked-is i =
+      let m : i % w < w = mod-lt i z in
+      tally-alike _ _ (λ k. state-is L w v ks ws (i / w) k (ltb k v) (i % w) (omega arith)) ks
+
+  pub painting-list : (h : ℕ) (d b e : List ℕ) → w * h ≤ length d → Filled (λ i. 0) d (w * h) b → Filled (stacked L w v ks ws) b (w * h) e
+      → e ≡ painting L w v ks ws h ++ drop (w * h) d
+  unfolding painting
+  painting-list h d b e l B E =
+      filled-list (λ i. painted L w v ks ws (i % w) (i / w)) d (w * h) e
+      (record { long = E .long ∙ B .long; done = λ i p. E .done i p ∙ stacked-is i; same = λ i p. E .same i p ∙ B .same i p }) l

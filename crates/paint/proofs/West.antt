@@ -19,7 +19,7 @@ use Rattle.edgel.specs.Edgel.{horizontal}
 use Rattle.edgel.specs.Beside.{westOf}
 use Rattle.paint.specs.Span.{inSpan}
 use Rattle.paint.specs.Member.{inside}
-use Rattle.paint.proofs.Takes.{take-none, take-more, take-le, take-end}
+use Rattle.layer.proofs.Takes.{take-none, take-more, take-le, take-end}
 
 module _ (w x y : ℕ) (l : x ≤ w) (p : ℕ) where
   -- a place by its row and column

@@ -1,10 +1,9 @@
 // Line part, membership and painting back.
-mod groups;
-mod layer;
 
-use crate::layer::add_levels;
 use edgel::code_of;
 use edgel::flagged;
+use layer::add_levels;
+use layer::blank;
 use matte::Answer;
 use matte::Verdict;
 use refuse::area;
@@ -19,7 +18,6 @@ ghost use Prim.Native.Nat.{ℕ, _+_, _*_, _≤_, _<_};
 ghost use lib.Dec.{ltb};
 ghost use lib.ListN.{length, take, drop};
 ghost use Rattle.tally.specs.Tally.{one};
-ghost use Rattle.fill.specs.Filled.{Filled};
 ghost use Rattle.matte.specs.Layout.{eight};
 ghost use Rattle.matte.specs.Picture.{levelsFit};
 ghost use Rattle.matte.specs.Refusal.{row, verdict, sidesRow, levelsRow};
@@ -217,18 +215,6 @@ fn paint_verdict(w: usize, h: usize, levels: &[u8], words: &[u32], places: usize
     Verdict {
         number: 0,
         place: 0,
-    }
-}
-
-// Sets the first n samples to 0.
-fn blank(room: &mut [u8], n: usize)
-    requires { ⌜ n ≤ length (now room) ⌝ }
-    ensures { λ _. ⌜ Filled (λ i. 0) (now (room .entry)) n (now (room .exit)) ⌝ }
-{
-    let mut i = 0;
-    while i < n {
-        room[i] = 0;
-        i += 1;
     }
 }
 

@@ -5,13 +5,12 @@ use Prim.Native.Nat.{ℕ, _*_, _≤_, _<_}
 use native.Mathlib.Omega.{arith}
 use borrow.Author.Needs.{needs}
 use lib.ListN.{length, drop}
-use Rattle.fill.specs.Filled.{Filled}
 use Rattle.matte.specs.declared.Verdict.{Verdict}
 use Rattle.matte.specs.Layout.{eight}
 use Rattle.matte.specs.Refusal.{answer, afterwards}
 use Rattle.matte.proofs.Rows.{done-answer, refused-answer, done-after, refused-after}
 use Rattle.paint.specs.Paint.{painting}
-use Rattle.paint.proofs.Levels.{painting-list}
+use Rattle.paint.proofs.States.{painting-list}
 use Rattle.paint.proofs.paint_words.Statement.{statement}
 use Rattle.paint.proofs.paint_words.Tie as tie
 
@@ -56,7 +55,7 @@ returns-2 c =
     let n = d .before .area in
     let F = painting eight (a .w) (a .v) (a .levels .now) (a .words .now) (a .h) ++ drop (a .w * a .h) (a .room .now) in (
       sym (done-answer (p .result) 0 0 z) ∙ ap (λ (z : Verdict). answer z 0 0) (p .ensures .0),
-      painting-list (a .w) (a .v) (a .levels .now) (a .words .now) (a .h) (a .room .now) _ _ (q .2) (rw (n .ensures .0) at (d .blank .ensures)) (c .before .before .add-levels .ensures)
+      painting-list eight (a .w) (a .v) (a .levels .now) (a .words .now) (omega (arith, q .0 .w-least)) (a .h) (a .room .now) _ _ (q .2) (rw (n .ensures .0) at (d .blank .ensures)) (c .before .before .add-levels .ensures)
           ∙ sym (done-after (p .result) (a .room .now) F z)
           ∙ ap (λ (z : Verdict). afterwards z (a .room .now) F) (p .ensures .0),
     )

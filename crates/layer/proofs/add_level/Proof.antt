@@ -1,0 +1,48 @@
+-- `layer::add_level` meets its contract: the marks of the level, then a layer. Assumes nothing.
+use mathlib.Core.Path.{_≡_, refl, sym, ap, _∙_}
+use native.Mathlib.Omega.{arith}
+use borrow.Author.Needs.{needs}
+use Rattle.layer.proofs.Levels.{layered-same, marks-turned}
+use Rattle.layer.proofs.add_level.Statement.{statement}
+use Rattle.layer.proofs.add_level.Tie as tie
+
+area-requires : tie.Need-area-requires
+area-requires c κs = search needs
+
+add-clear : tie.Need-add-clear
+add-clear c = search needs
+
+clear-requires : tie.Need-clear-requires
+clear-requires c κs = search needs
+
+mark-words-requires : tie.Need-mark-words-requires
+mark-words-requires c κs = search needs
+
+add-layer-requires : tie.Need-add-layer-requires
+add-layer-requires c κs = search needs
+
+same-length : tie.Need-same-length
+same-length c = search needs
+
+returns : tie.Need-returns
+returns c =
+    let d = c .before .before .before .before .before in
+    let C = d .before .before .clear in
+    let n = d .before .before .before .before .area in (
+      d .mark-words .ensures .0,
+      layered-same _ _ _ _ _ _ _
+          (λ p h. marks-turned _ _ _ (C .ensures .1 p (omega (arith, n .ensures .0))) (d .mark-words .ensures .1 p))
+          (c .before .before .add-layer .ensures),
+    )
+
+pub add-level-spec : {M : Type 1} → statement M
+add-level-spec =
+    tie.close
+    (tie.spec
+    area-requires
+    add-clear
+    clear-requires
+    mark-words-requires
+    add-layer-requires
+    same-length
+    returns)

@@ -17,6 +17,7 @@ const LINKED: &[Call] = &[
     Call::Frame,
     Call::Crossing,
     Call::Piece,
+    Call::LinePart,
     Call::Member,
     Call::Paint,
     Call::Write,
@@ -66,6 +67,13 @@ struct ToldMembership {
     inside: bool,
 }
 
+/// A line's place as the library lays it out.
+#[repr(C)]
+struct ToldPlace {
+    start: usize,
+    count: usize,
+}
+
 /// A stored outline as the library lays it out.
 #[repr(C)]
 struct ToldStored {
@@ -87,6 +95,7 @@ extern "C" {
         w: usize, h: usize, px: *const u8, px_len: usize, level: u8, x: usize, y: usize,
     ) -> ToldPiece;
     fn loafcanyon_frame(w: usize, h: usize, px: *const u8, px_len: usize, room: *mut u8, room_len: usize) -> Told;
+    fn loafcanyon_part(words: *const u32, words_len: usize, n: usize) -> ToldPlace;
     fn loafcanyon_member(
         w: usize, h: usize, words: *const u32, words_len: usize, n: usize, x: usize, y: usize,
     ) -> ToldMembership;
@@ -154,7 +163,8 @@ impl Calls for Library {
     }
 
     fn line_part<'a>(&self, words: &'a [u32], n: usize) -> &'a [u32] {
-        unlinked()
+        let t = unsafe { loafcanyon_part(words.as_ptr(), words.len(), n) };
+        &words[t.start..t.start + t.count]
     }
 
     fn member(&self, w: usize, h: usize, words: &[u32], n: usize, x: usize, y: usize) -> (Answer, bool) {

@@ -7,8 +7,10 @@ use olr::Stored;
 use olr::read_file;
 use olr::write_file;
 use paint::Membership;
+use paint::line_part;
 use paint::member;
 use paint::paint_words;
+use paint::start_of;
 use piece::Found;
 use piece::Piece;
 use piece::piece_at;
@@ -25,6 +27,7 @@ ghost use Rattle.paint.specs.Paint.{paintAnswer, paintRoom};
 ghost use Rattle.olr.specs.File.{writeAnswer, writeRoom};
 ghost use Rattle.olr.specs.Read.{readAnswer, readWords};
 ghost use Rattle.host.specs.Piece.{toldPiece};
+ghost use Rattle.host.specs.Part.{partPlace};
 
 // The piece call's answer as plain numbers.
 #[repr(C)]
@@ -34,6 +37,13 @@ pub struct ToldPiece {
     pub xs: f64,
     pub ys: f64,
     pub delta: f64,
+}
+
+// Where a line stands in the caller's list, and how many words it has.
+#[repr(C)]
+pub struct LinePlace {
+    pub start: usize,
+    pub count: usize,
 }
 
 fn told(f: Found) -> ToldPiece
@@ -99,6 +109,18 @@ pub extern "C" fn loafcanyon_frame(w: usize, h: usize, px: &[u8], room: &mut [u8
     ensures { λ r. ⌜ (r ≡ frameAnswer eight (picture w h (now (px .entry))) (now (room .entry))) × (now (room .exit) ≡ frameRoom eight (picture w h (now (px .entry))) (now (room .entry))) ⌝ }
 {
     frame_picture(w, h, px, room)
+}
+
+#[no_mangle]
+pub extern "C" fn loafcanyon_part(words: &[u32], n: usize) -> LinePlace
+    ensures { λ r. ⌜ r ≡ partPlace n (now (words .entry)) ⌝ }
+{
+    let a = start_of(words, n);
+    let p = line_part(words, n);
+    LinePlace {
+        start: a,
+        count: p.len(),
+    }
 }
 
 #[no_mangle]

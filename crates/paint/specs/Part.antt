@@ -1,8 +1,8 @@
 -- The lines of any word list. Assumes nothing.
--- Definitions: `rest` the words before the next flagged one; `part` line n.
+-- Definitions: `rest` the words before the next flagged one; `part` line n; `partStart` its place.
 use mathlib.Core.Bool.{Bool, true, false}
 use mathlib.Core.List.{List, [], _∷_}
-use Prim.Native.Nat.{ℕ, zero, suc}
+use Prim.Native.Nat.{ℕ, zero, suc, _+_}
 use Rattle.matte.specs.Layout.{Layout}
 use Rattle.edgel.specs.Word.{flagged}
 
@@ -16,3 +16,8 @@ module _ (L : Layout) where
   unfoldable pub part : ℕ → List ℕ → List ℕ
   part n [] = []
   part n (u ∷ ws) = elim (flagged L u) [ true ↦ elim n [ zero ↦ u ∷ rest ws | suc m ↦ part m ws ] | false ↦ part n ws ]
+
+  -- the number of words before line n, all of them where there is none (01, Framing, membership, painting)
+  unfoldable pub partStart : ℕ → List ℕ → ℕ
+  partStart n [] = 0
+  partStart n (u ∷ ws) = elim (flagged L u) [ true ↦ elim n [ zero ↦ 0 | suc m ↦ partStart m ws + 1 ] | false ↦ partStart n ws + 1 ]

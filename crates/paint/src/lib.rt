@@ -23,7 +23,7 @@ ghost use Rattle.matte.specs.Picture.{levelsFit};
 ghost use Rattle.matte.specs.Refusal.{row, verdict, sidesRow, levelsRow};
 ghost use Rattle.edgel.specs.Word.{codesRow, wordsFitRow};
 ghost use Rattle.refuse.specs.Shape.{Sides};
-ghost use Rattle.paint.specs.Part.{rest, part};
+ghost use Rattle.paint.specs.Part.{rest, part, partStart};
 ghost use Rattle.paint.specs.Span.{whole, inSpan};
 ghost use Rattle.paint.specs.Member.{inside, memberAnswer};
 ghost use Rattle.paint.specs.Paint.{paintAnswer, paintRoom};
@@ -36,8 +36,8 @@ pub struct Membership {
 }
 
 // Where line n starts, or the length.
-fn start_of(words: &[u32], n: usize) -> usize
-    ensures { λ r. ⌜ (r ≤ length (now (words .entry))) × (part eight n (now (words .entry)) ≡ whole eight (drop r (now (words .entry)))) ⌝ }
+pub fn start_of(words: &[u32], n: usize) -> usize
+    ensures { λ r. ⌜ (r ≤ length (now (words .entry))) × (r ≡ partStart eight n (now (words .entry))) ⌝ }
 {
     let mut left = n;
     let mut i = 0;

@@ -7,8 +7,9 @@ use borrow.Author.Needs.{needs}
 use lib.ListN.{length, take, drop, length-drop}
 use lib.Seq.{drop-length, take-all}
 use Rattle.matte.specs.Layout.{eight}
+use Rattle.paint.specs.Part.{part, partStart}
 use Rattle.paint.specs.Span.{whole}
-use Rattle.paint.proofs.Lines.{whole-at}
+use Rattle.paint.proofs.Lines.{whole-at, part-start}
 use Rattle.paint.proofs.line_part.Statement.{statement}
 use Rattle.paint.proofs.line_part.Tie as tie
 
@@ -55,6 +56,9 @@ part-result-end c = search needs
 to-end : (s : List ℕ) (b : ℕ) → take (length s - b) (drop b s) ≡ drop b s
 to-end s b = take-all (length s - b) (drop b s) (omega (arith, length-drop b s))
 
+there : (s : List ℕ) (n a : ℕ) → a ≡ partStart eight n s → part eight n s ≡ whole eight (drop a s)
+there s n a e = part-start eight n s ∙ ap (λ (k : ℕ). whole eight (drop k s)) (sym e)
+
 returns : tie.Need-returns
 returns c =
     let d = c .before .before .before .before in
@@ -62,7 +66,7 @@ returns c =
     let a = d .start-of .result in
     let r = c .before .run-of .result in
     let h : a < length s = omega arith in
-    whole-at eight s a h r (a + 1 + r - a) (rw (to-end s (a + 1)) at (c .before .run-of .ensures .1)) (omega arith) ∙ sym (d .start-of .ensures .1)
+    whole-at eight s a h r (a + 1 + r - a) (rw (to-end s (a + 1)) at (c .before .run-of .ensures .1)) (omega arith) ∙ sym (there s (d .before .before .args .n) a (d .start-of .ensures .1))
 
 mul-result-2 : tie.Need-mul-result-2
 mul-result-2 c = search needs
@@ -82,9 +86,10 @@ returns-2 c =
     let d = c .before .before in
     let s = d .before .before .args .words .now in
     let a = d .start-of .result in
+    let n = d .before .before .args .n in
     let e : a ≡ length s = omega (arith, d .start-of .ensures .0) in
     let z : a - a ≡ 0 = omega arith in
-    rw z (sym (d .start-of .ensures .1 ∙ rw (e, drop-length s)))
+    rw z (sym (there s n a (d .start-of .ensures .1) ∙ rw (e, drop-length s)))
 
 pub line-part-spec : {M : Type 1} → statement M
 line-part-spec =

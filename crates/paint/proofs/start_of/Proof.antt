@@ -1,4 +1,4 @@
--- `paint::start_of` meets its contract: line n is line `left` of what is left of the list. Assumes nothing.
+-- `paint::start_of` meets its contract: line n starts where line `left` of what is left of the list does. Assumes nothing.
 use mathlib.Core.Logic.{⊎-elim}
 use mathlib.Core.Path.{_≡_, refl, sym, ap, _∙_}
 use mathlib.Core.List.{List, [], _++_, append-nil}
@@ -8,19 +8,19 @@ use borrow.Author.Needs.{needs}
 use lib.ListN.{length, take, drop}
 use lib.Seq.{take-length}
 use Rattle.matte.specs.Layout.{eight}
-use Rattle.paint.specs.Part.{rest, part}
-use Rattle.paint.proofs.Lines.{part-found, part-skip, part-more, part-end}
+use Rattle.paint.specs.Part.{partStart}
+use Rattle.paint.proofs.Lines.{start-found, start-skip, start-more, start-end}
 use Rattle.paint.proofs.start_of.Statement.{statement}
 use Rattle.paint.proofs.start_of.Tie as tie
 
 abbrev Inv-loop : tie.InvT-loop
-Inv-loop words n left₀ i₀ left i = (i ≤ length words) × (part eight n words ≡ part eight left (drop i words))
+Inv-loop words n left₀ i₀ left i = (i ≤ length words) × (partStart eight n words ≡ i + partStart eight left (drop i words))
 
 abbrev μ-loop : tie.MeasureT-loop
 μ-loop words n left₀ i₀ left i = length words - i
 
 loop-holds : tie.Need-loop-holds Inv-loop μ-loop
-loop-holds c = (omega arith, refl)
+loop-holds c = (omega arith, omega arith)
 
 mul-flagged : tie.Need-mul-flagged Inv-loop μ-loop
 mul-flagged c = search needs
@@ -35,12 +35,9 @@ returns : tie.Need-returns Inv-loop μ-loop
 returns c =
     let l = c .before .before .before .before .before in
     let s = l .before .before .args .words .now in
-    let h : l .loop .i < length s = omega arith in (
-      omega arith,
-      l .loop .inv .1
-          ∙ ap (λ (k : ℕ). part eight k (drop (l .loop .i) s)) (c .if2 .taken)
-          ∙ part-found eight s (l .loop .i) h (sym (c .before .before .flagged .ensures) ∙ c .before .if1 .taken),
-    )
+    let h : l .loop .i < length s = omega arith in
+    let z : partStart eight (l .loop .left) (drop (l .loop .i) s) ≡ 0 = rw (c .if2 .taken) (start-found eight s (l .loop .i) h (sym (c .before .before .flagged .ensures) ∙ c .before .if1 .taken)) in
+    (omega arith, omega (arith, l .loop .inv .1))
 
 sub-left : tie.Need-sub-left Inv-loop μ-loop
 sub-left c = omega arith
@@ -57,11 +54,10 @@ loop-again c =
     let s = l .before .before .args .words .now in
     let h : l .loop .i < length s = omega arith in (
       omega arith,
-      l .loop .inv .1
-          ∙ ⊎-elim
-          (λ w. rw (w .2) (part-skip eight s (l .loop .i) h _ (sym (c .before .flagged .ensures) ∙ w .0 .taken) (omega (arith, w .1 .left))))
-          (λ w. rw (w .1) (part-more eight s (l .loop .i) h _ (sym (c .before .flagged .ensures) ∙ w .0 .left)))
-          (c .if1 .came),
+      ⊎-elim
+      (λ w. rw (w .2) (omega (arith, l .loop .inv .1, start-skip eight s (l .loop .i) h (l .loop .left) (sym (c .before .flagged .ensures) ∙ w .0 .taken) (omega (arith, w .1 .left)))))
+      (λ w. rw (w .1) (omega (arith, l .loop .inv .1, start-more eight s (l .loop .i) h (l .loop .left) (sym (c .before .flagged .ensures) ∙ w .0 .left))))
+      (c .if1 .came),
     )
 
 returns-2 : tie.Need-returns-2 Inv-loop μ-loop
@@ -69,7 +65,7 @@ returns-2 c =
     let l = c .before in
     let s = l .before .before .args .words .now in
     let e : l .loop .i ≡ length s = omega arith in
-    (omega arith, l .loop .inv .1 ∙ part-end eight (l .loop .left) (l .loop .i) s e)
+    (omega arith, omega (arith, l .loop .inv .1, start-end eight (l .loop .left) (l .loop .i) s e))
 
 pub start-of-spec : {M : Type 1} → statement M
 start-of-spec =

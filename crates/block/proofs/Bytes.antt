@@ -4,13 +4,12 @@
 --   `num4-front`, `num4-after`, `num4-take`, `num4-drop` in lists joined and in parts; `below-take`, `below-drop` the bound in parts; `length-pad`, `length-block`.
 use mathlib.Core.Path.{_≡_, refl, sym, ap, _∙_}
 use mathlib.Core.List.{List, [], _∷_, _++_}
-use Prim.Native.Nat.{ℕ, zero, suc, _+_, _-_, _*_, _/_, _%_, _≤_, _<_}
+use Prim.Native.Nat.{ℕ, _+_, _-_, _*_, _/_, _%_, _≤_, _<_}
 use native.Mathlib.Nat.{add-assoc, add-comm, div-div-eq-div-mul, div-add-mod', mod-eq-of-lt}
 use lib.Arith.{digits-div, digits-mod}
-use native.Mathlib.Numerals.{add-one, add-two, add-three}
 use native.Mathlib.Omega.{arith}
 use lib.ListN.{length, getD, take, drop, replicate, length-append, length-replicate, length-take, length-drop, List·getD-append}
-use lib.Seq.{getD-append-add, getD-take, getD-drop, drop-cons}
+use lib.Seq.{getD-append-add, getD-take, getD-drop}
 use Rattle.block.specs.Block.{le2, le4, num2, num4, check, pad, block}
 
 pub num2-le2 : (n : ℕ) (l : List ℕ) → n < 65536 → num2 (le2 n ++ l) 0 ≡ n

@@ -2,9 +2,9 @@
 -- Main laws: `stirred-more` one byte more, `stirred-all` no byte left; `stir-start`, `stir-byte` each step is injective in the sum and in the byte; `start-told` equal payloads with different starts
 --   have different sums; `byte-told` payloads that differ in one byte have, `set-told` the same for a byte stored; `number-told` equal payloads in blocks of different number have different checks;
 --   `check-below` a check has 32 bits.
-use mathlib.Core.Path.{_≡_, refl, sym, ap, _∙_}
+use mathlib.Core.Path.{_≡_, sym, ap, _∙_}
 use mathlib.Core.List.{List, [], _∷_, _++_}
-use Prim.Native.Nat.{ℕ, zero, suc, _+_, _*_, _/_, _%_, _≤_, _<_}
+use Prim.Native.Nat.{ℕ, suc, _+_, _*_, _/_, _%_, _<_}
 use native.Mathlib.Numerals.{add-one}
 use native.Mathlib.Omega.{arith}
 use lib.ListN.{length, getD, drop, take, set}

@@ -1,12 +1,12 @@
 -- Stores in a list as parts joined. Assumes nothing.
 -- Main laws: `put-2`, `put-4` two and four stores in a row; `onto` a part stored after what is stored already; `zero-start`, `zero-more`, `zero-end` zeros one by one; `closed` zeros and check make a block.
-use mathlib.Core.Path.{_≡_, refl, sym, ap, _∙_}
+use mathlib.Core.Path.{_≡_, sym, ap, _∙_}
 use mathlib.Core.List.{List, [], _∷_, _++_, append-assoc, append-nil}
-use Prim.Native.Nat.{ℕ, zero, suc, _+_, _-_, _≤_, _<_}
-use native.Mathlib.Numerals.{add-one, add-two, add-three, add-four}
+use Prim.Native.Nat.{ℕ, suc, _+_, _-_, _≤_, _<_}
+use native.Mathlib.Numerals.{add-one, add-two, add-three}
 use native.Mathlib.Omega.{arith}
 use lib.ListN.{length, take, drop, set, getD, replicate, length-append, length-drop, length-replicate, drop-of-length-le, replicate-append-replicate, take-append-drop}
-use lib.Seq.{sets-eq, set-at, take-at, drop-at, drop-cons, drop-drop, drop-append-add, length-take-le, append-snoc}
+use lib.Seq.{sets-eq, set-at, take-at, drop-cons, drop-drop, drop-append-add, length-take-le, append-snoc}
 use Rattle.block.specs.Block.{le4, check, pad, block}
 
 pub put-2 : (s : List ℕ) (i a b : ℕ) → i + 2 ≤ length s → set (set s i a) (i + 1) b ≡ take i s ++ (a ∷ b ∷ []) ++ drop (i + 2) s
@@ -26,7 +26,7 @@ onto x y was b i n l e =
     ap (λ (z : List ℕ). take i z ++ y ++ drop (i + n) z) e
     ∙ ap (λ (z : List ℕ). z ++ y ++ drop (i + n) (x ++ drop i was)) (take-at x (drop i was) i l)
     ∙ ap (λ (z : List ℕ). (x ++ y) ++ z)
-        (ap (λ (j : ℕ). drop (j + n) (x ++ drop i was)) (sym l) ∙ drop-append-add x (drop i was) n ∙ drop-drop n i was)
+    (ap (λ (j : ℕ). drop (j + n) (x ++ drop i was)) (sym l) ∙ drop-append-add x (drop i was) n ∙ drop-drop n i was)
 
 module _ (s : List ℕ) (from : ℕ) where
   pub zero-start : s ≡ take from s ++ replicate (from - from) 0 ++ drop from s
@@ -49,8 +49,8 @@ module _ (s : List ℕ) (from : ℕ) where
       ∙ ap (λ (j : ℕ). p ++ (0 ∷ drop j s)) (sym (add-one i))
       ∙ sym (append-snoc p 0 (drop (i + 1) s))
       ∙ ap (λ (t : List ℕ). t ++ drop (i + 1) s)
-          (append-assoc (take from s) (replicate (i - from) 0) (0 ∷ [])
-          ∙ ap (λ (t : List ℕ). take from s ++ t) (replicate-append-replicate (i - from) 1 0 ∙ ap (λ (m : ℕ). replicate m 0) n))
+      (append-assoc (take from s) (replicate (i - from) 0) (0 ∷ [])
+      ∙ ap (λ (t : List ℕ). take from s ++ t) (replicate-append-replicate (i - from) 1 0 ∙ ap (λ (m : ℕ). replicate m 0) n))
 
   pub zero-end : (b : List ℕ) (i : ℕ) → from ≤ length s → i ≡ 508 → b ≡ take from s ++ replicate (i - from) 0 ++ drop i s → b ≡ pad (take from s) ++ drop 508 s
   zero-end b i h q e =

@@ -1,7 +1,7 @@
 -- What levels that fit say of the list. Assumes nothing.
 -- Main laws: `ascend-length`, `levels-length` there are not more than values; `ascend-below`, `levels-below` each is below the largest sample.
-use mathlib.Core.Path.{_≡_, refl}
-use mathlib.Core.Bool.{Bool, true, false, _&&_}
+use mathlib.Core.Path.{_≡_}
+use mathlib.Core.Bool.{true, _&&_}
 use mathlib.Core.List.{List, [], _∷_}
 use Prim.Native.Nat.{ℕ, zero, suc, _+_, _≤_, _<_}
 use native.Mathlib.Omega.{arith}

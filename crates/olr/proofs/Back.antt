@@ -3,31 +3,28 @@
 --   its words have 32 bits, its border value 8. Before them: `build-take`, `build-drop` parts of a list of values; `pad-back` zeros after a place; `block-back` a block whose check is right; `head-back` block 0;
 --   `words-back` the blocks of words.
 use mathlib.Core.Path.{_≡_, refl, sym, ap, ap₂, _∙_}
-use mathlib.Core.Bool.{Bool, true, false, not, _&&_}
-use mathlib.Core.List.{List, [], _∷_, _++_, append-assoc, append-nil}
-use Prim.Native.Nat.{ℕ, zero, suc, _+_, _-_, _*_, _/_, _%_, _≤_, _<_, min}
-use native.Mathlib.Nat.{zero-add}
+use mathlib.Core.Bool.{true, not}
+use mathlib.Core.List.{List, [], _∷_, _++_}
+use Prim.Native.Nat.{ℕ, zero, suc, _+_, _-_, _*_, _/_, _%_, _≤_, _<_}
 use native.Mathlib.Omega.{arith}
-use lib.Dec.{eqb, leb}
-use lib.ListN.{length, getD, take, drop, replicate, length-append, length-take, length-drop, take-append-drop, drop-of-length-le}
+use lib.Dec.{leb}
+use lib.ListN.{length, take, drop, replicate, length-drop, take-append-drop, drop-of-length-le}
 use lib.Seq.{take-at, drop-at, take-all, take-add, take-take, drop-drop, getD-drop, length-take-le}
 use borrow.Author.Tests.{eqb-true, leb-true, leb-false, not-false}
-use Rattle.tally.specs.Tally.{build, firstAt}
-use Rattle.tally.proofs.Test.{by-test, no}
+use Rattle.tally.specs.Tally.{build}
+use Rattle.tally.proofs.Test.{by-test}
 use Rattle.tally.proofs.First.{from-before}
-use Rattle.tally.proofs.Build.{build-length, build-at, build-more, build-cut}
-use Rattle.matte.specs.Layout.{eight}
-use Rattle.edgel.specs.Word.{badWord}
-use Rattle.block.specs.Block.{le2, le4, num2, num4, check, pad, block}
-use Rattle.block.proofs.Bytes.{Below, below-drop, below-take, le2-num2, le4-num4, num4-below, first2}
+use Rattle.tally.proofs.Build.{build-length, build-more, build-cut}
+use Rattle.block.specs.Block.{le2, le4, num4, check, pad, block}
+use Rattle.block.proofs.Bytes.{Below, le2-num2, le4-num4, num4-below, first2}
 use Rattle.olr.specs.File.{letters, header, wordBytes, blocksFor, wordBlocks, file, fileLength, writeVerdict}
-use Rattle.olr.specs.Read.{zeros, blocks, payload, checkFits, fileWidth, fileHeight, fileBorder, fileCount, fileWordCount, fileLevels, fileWords, afterLevels, afterWords, readVerdict}
-use Rattle.olr.proofs.Words.{bytes-append, bytes-length, bytes-one}
+use Rattle.olr.specs.Read.{zeros, blocks, payload, checkFits, fileWidth, fileHeight, fileBorder, fileCount, fileWordCount, fileLevels, fileWords, readVerdict}
+use Rattle.olr.proofs.Words.{bytes-append, bytes-one}
 use Rattle.olr.proofs.Zeros.{zeros-are, are-zeros}
 use Rattle.olr.proofs.Laid.{Laid, laid, after-words, drop-part}
 use Rattle.olr.proofs.Taken.{wordPlace, words-length, words-at, place-there, levels-length}
-use Rattle.olr.proofs.Write.{Writable, write-done, file-is}
-use Rattle.olr.proofs.Read.{Readable, readable, badAt, badBlock}
+use Rattle.olr.proofs.Write.{write-done, file-is}
+use Rattle.olr.proofs.Read.{Readable, readable}
 
 module _ (g : ℕ → ℕ) (i : ℕ) where
   pub build-take : (k n : ℕ) → k ≤ n → take k (build g i n) ≡ build g i k
@@ -61,9 +58,9 @@ module _ (f : List ℕ) (bytes : Below 256 f) where
       sym
       (take-add 508 4 g
       ∙ ap (λ (t : List ℕ). take 508 g ++ t)
-          (ap (take 4) (drop-drop 508 (512 * i) f)
-          ∙ sym (le4-num4 f (512 * i + 508) bytes (omega arith))
-          ∙ ap le4 (eqb-true (num4 f (512 * i + 508)) (check i (payload f i)) c)))
+      (ap (take 4) (drop-drop 508 (512 * i) f)
+      ∙ sym (le4-num4 f (512 * i + 508) bytes (omega arith))
+      ∙ ap le4 (eqb-true (num4 f (512 * i + 508)) (check i (payload f i)) c)))
 
   -- block 0
   first-16 : 512 ≤ length f → Laid f → take 16 f ≡ letters ++ le2 (fileWidth f) ++ le2 (fileHeight f) ++ (fileBorder f ∷ fileCount f ∷ []) ++ le2 0 ++ le4 (fileWordCount f)
@@ -76,12 +73,12 @@ module _ (f : List ℕ) (bytes : Below 256 f) where
       let g : take 4 (drop 12 f) ≡ le4 (fileWordCount f) = sym (le4-num4 f 12 bytes (omega arith)) in
       take-add 12 4 f
       ∙ ap₂ (λ (x y : List ℕ). x ++ y)
-          (take-add 10 2 f
-          ∙ ap₂ (λ (x y : List ℕ). x ++ y)
-              (take-add 8 2 f
-              ∙ ap₂ (λ (x y : List ℕ). x ++ y) (take-add 6 2 f ∙ ap₂ (λ (x y : List ℕ). x ++ y) (take-add 4 2 f ∙ ap₂ (λ (x y : List ℕ). x ++ y) a b) c) d)
-              e)
-          g
+      (take-add 10 2 f
+      ∙ ap₂ (λ (x y : List ℕ). x ++ y)
+      (take-add 8 2 f
+      ∙ ap₂ (λ (x y : List ℕ). x ++ y) (take-add 6 2 f ∙ ap₂ (λ (x y : List ℕ). x ++ y) (take-add 4 2 f ∙ ap₂ (λ (x y : List ℕ). x ++ y) a b) c) d)
+      e)
+      g
 
   pub head-back : 512 ≤ length f → Laid f → pad (header (fileWidth f) (fileHeight f) (fileBorder f) (fileLevels f) (fileWordCount f)) ≡ payload f 0
   head-back l L =
@@ -116,12 +113,12 @@ module _ (f : List ℕ) (bytes : Below 256 f) where
       ap wordBytes (build-more at (127 * b) k)
       ∙ bytes-append (build at (127 * b) k) (at (127 * b + k) ∷ [])
       ∙ ap₂ (λ (x y : List ℕ). x ++ y) (bytes-back b k (omega arith) l)
-          (bytes-one (at (127 * b + k))
-          ∙ ap (λ (n : ℕ). le4 (num4 f n)) (place b k (omega arith))
-          ∙ le4-num4 f (512 * (1 + b) + 4 * k) bytes (omega arith)
-          ∙ ap (take 4) (sym (drop-drop (4 * k) (512 * (1 + b)) f))
-          ∙ sym (take-take 4 (508 - 4 * k) (drop (4 * k) d) (omega arith))
-          ∙ ap (take 4) (sym (drop-part (4 * k) 508 d)))
+      (bytes-one (at (127 * b + k))
+      ∙ ap (λ (n : ℕ). le4 (num4 f n)) (place b k (omega arith))
+      ∙ le4-num4 f (512 * (1 + b) + 4 * k) bytes (omega arith)
+      ∙ ap (take 4) (sym (drop-drop (4 * k) (512 * (1 + b)) f))
+      ∙ sym (take-take 4 (508 - 4 * k) (drop (4 * k) d) (omega arith))
+      ∙ ap (take 4) (sym (drop-part (4 * k) 508 d)))
       ∙ sym (take-add (4 * k) 4 p)
       ∙ ap (λ (n : ℕ). take n p) (sym s)
 
@@ -201,8 +198,8 @@ module _ (f out : List ℕ) (bytes : Below 256 f) (done : readVerdict f out .num
       file-is (fileWidth f) (fileHeight f) (fileBorder f) (fileLevels f) (fileWords f)
       ∙ ap (λ (k : ℕ). block 0 (pad (header (fileWidth f) (fileHeight f) (fileBorder f) (fileLevels f) k)) ++ wordBlocks 1 (blocksFor k) (fileWords f)) n
       ∙ ap₂ (λ (x y : List ℕ). x ++ y)
-          (ap (block 0) (head-back f bytes long-enough L) ∙ block-back f bytes 0 long-enough (checks-right 0 (omega (arith, L .count))))
-          (words-back f bytes L (R .whole) checks-right (blocksFor (fileWordCount f)) 0 (fileWordCount f) (omega arith) (λ _. omega arith))
+      (ap (block 0) (head-back f bytes long-enough L) ∙ block-back f bytes 0 long-enough (checks-right 0 (omega (arith, L .count))))
+      (words-back f bytes L (R .whole) checks-right (blocksFor (fileWordCount f)) 0 (fileWordCount f) (omega arith) (λ _. omega arith))
       ∙ take-append-drop 512 f
 
   -- the bytes needed for what was read are the file's

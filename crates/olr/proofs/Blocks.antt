@@ -1,8 +1,8 @@
 -- The blocks of words. Assumes nothing.
 -- Main laws: `blocks-length`; `blocks-more` one block more at the end; `blocks-drop` without the first; `blocks-start`, `blocks-put` a file filled block by block.
 use mathlib.Core.Path.{_≡_, refl, sym, ap, _∙_}
-use mathlib.Core.List.{List, [], _∷_, _++_, append-assoc, append-nil}
-use Prim.Native.Nat.{ℕ, zero, suc, _+_, _-_, _*_, _≤_, _<_, min}
+use mathlib.Core.List.{List, _++_, append-assoc, append-nil}
+use Prim.Native.Nat.{ℕ, zero, suc, _+_, _-_, _*_, _≤_, min}
 use native.Mathlib.Numerals.{add-one}
 use native.Mathlib.Omega.{arith}
 use lib.Dec.{leb}
@@ -96,6 +96,6 @@ module _ (was ws : List ℕ) where
       ∙ onto x y was b at 512 lx (f ∙ ap (λ (z : ℕ). x ++ drop z was) u)
       ∙ ap (λ (z : ℕ). (x ++ y) ++ drop z was) v
       ∙ ap (λ (z : List ℕ). z ++ drop (512 * (1 + (i + 1))) was)
-          (append-assoc (take 512 was) (wordBlocks 1 i ws) y
-          ∙ ap (λ (z : List ℕ). take 512 was ++ (wordBlocks 1 i ws ++ z)) (g ∙ ap (λ (z : List ℕ). block (1 + i) (pad (wordBytes z))) (part-127 (drop (127 * i) ws) (e - 127 * i) q))
-          ∙ ap (λ (z : List ℕ). take 512 was ++ z) (sym (blocks-more 1 i ws) ∙ ap (λ (z : ℕ). wordBlocks 1 z ws) (sym (add-one i))))
+      (append-assoc (take 512 was) (wordBlocks 1 i ws) y
+      ∙ ap (λ (z : List ℕ). take 512 was ++ (wordBlocks 1 i ws ++ z)) (g ∙ ap (λ (z : List ℕ). block (1 + i) (pad (wordBytes z))) (part-127 (drop (127 * i) ws) (e - 127 * i) q))
+      ∙ ap (λ (z : List ℕ). take 512 was ++ z) (sym (blocks-more 1 i ws) ∙ ap (λ (z : ℕ). wordBlocks 1 z ws) (sym (add-one i))))

@@ -1,6 +1,6 @@
 -- A conjunction tested one part after the other. Assumes nothing.
 -- Main laws: `no-and` a part that fails; `go-and` one that holds.
-use mathlib.Core.Path.{_≡_, refl, sym}
+use mathlib.Core.Path.{_≡_, refl}
 use mathlib.Core.Bool.{Bool, true, false, _&&_}
 use Rattle.tally.proofs.Test.{no}
 

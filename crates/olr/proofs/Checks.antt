@@ -1,12 +1,12 @@
 -- The check of each block of a file. Assumes nothing.
 -- Main laws: `check-part` the test of a block is that of the part of the file; `bad-stop`, `bad-end` the first wrong block.
-use mathlib.Core.Path.{_≡_, refl, sym, ap, ap₂, _∙_}
+use mathlib.Core.Path.{_≡_, sym, ap, ap₂, _∙_}
 use mathlib.Core.Bool.{Bool, true, false, not}
 use mathlib.Core.List.{List}
-use Prim.Native.Nat.{ℕ, _+_, _*_, _≤_, _<_}
+use Prim.Native.Nat.{ℕ, _*_, _<_}
 use native.Mathlib.Omega.{arith}
 use lib.Dec.{eqb}
-use lib.ListN.{length, take, drop}
+use lib.ListN.{take, drop}
 use lib.Seq.{take-take}
 use Rattle.tally.specs.Tally.{firstFrom}
 use Rattle.tally.proofs.First.{from-is}

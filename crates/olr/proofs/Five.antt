@@ -1,10 +1,10 @@
 -- Five rows of refusals, as writing and reading have them. Assumes nothing.
 -- Definitions: `Passed` no row is given.
 -- Main laws: `first-1` to `first-5` the verdict where the rows before pass and this one is given; `first-0` where all pass; `passed-all` a verdict of 0 says that all pass.
-use mathlib.Core.Path.{_≡_, refl, sym, ap, _∙_}
-use mathlib.Core.Bool.{Bool, true, false}
+use mathlib.Core.Path.{_≡_, sym, ap, _∙_}
+use mathlib.Core.Bool.{true, false}
 use mathlib.Core.List.{List, [], _∷_}
-use Prim.Native.Nat.{ℕ, _<_}
+use Prim.Native.Nat.{_<_}
 use native.Mathlib.Omega.{arith}
 use Rattle.tally.proofs.Test.{by-test}
 use Rattle.matte.specs.declared.Verdict.{Verdict}

@@ -1,6 +1,6 @@
 -- Block 0, put together part by part. Assumes nothing.
 -- Main laws: `sides-put`, `counts-put`, `head-put` what the stores of letters and sides, of the counts, and of all leave; `head-fits`, `head-length` its size.
-use mathlib.Core.Path.{_≡_, refl, sym, ap, _∙_}
+use mathlib.Core.Path.{_≡_, refl, ap, _∙_}
 use mathlib.Core.List.{List, [], _∷_, _++_, append-assoc}
 use Prim.Native.Nat.{ℕ, _+_, _*_, _≤_, _<_}
 use native.Mathlib.Omega.{arith}

@@ -5,11 +5,11 @@
 use mathlib.Core.Path.{_≡_, refl, sym, ap, ap₂, _∙_}
 use mathlib.Core.Bool.{Bool, true, false, _&&_, cond}
 use mathlib.Core.List.{List, [], _∷_}
-use Prim.Native.Nat.{ℕ, zero, suc, _+_, _-_, _*_, _%_, _≤_, _<_}
+use Prim.Native.Nat.{ℕ, zero, suc, _+_, _-_, _*_, _%_, _≤_}
 use native.Mathlib.Omega.{arith}
 use lib.Dec.{eqb, leb}
-use lib.ListN.{length, take, drop}
-use lib.Seq.{drop-drop, take-nil, drop-nil}
+use lib.ListN.{take, drop}
+use lib.Seq.{drop-drop, take-nil}
 use borrow.Author.Tests.{eq-eqb, ne-eqb, eqb-true, leb-true, le-leb}
 use Rattle.tally.proofs.Test.{and-1, and-2, both}
 use Rattle.matte.specs.Layout.{eight}
@@ -126,7 +126,7 @@ pub laid-back : (f : List ℕ) → Laid f → laidOut f ≡ true
 laid-back f L =
     laid-parts f
     ∙ both (both (eq-eqb _ _ (L .magic)) (both (eq-eqb _ _ (L .spare)) (both (le-leb _ _ (L .most)) (eq-eqb _ _ (L .count)))))
-      (both (both (L .sides) (both (L .levels) (L .after-level))) (L .after-word))
+    (both (both (L .sides) (both (L .levels) (L .after-level))) (L .after-word))
 
 -- the blocks of the words are all there
 pub laid-holds : (f : List ℕ) (n : ℕ) → Laid f → n ≡ fileWordCount f → Holds f n

@@ -13,3 +13,4 @@ pub mod Read
 pub mod There
 pub mod Round
 pub mod Back
+pub mod Bytewise

@@ -1,27 +1,26 @@
 -- The refusals of reading, one row after the other. Assumes nothing.
 -- Definitions: `Readable` what a call that is not refused has.
--- Main laws: `read-12`, `read-13`, `read-14`, `read-8`, `read-6`, `read-0` the verdict by its tests; `readable` what a verdict of 0 says, `read-done` and back; `read-refused`, `read-taken` the call;
+-- Main laws: `read-12`, `read-13`, `read-14`, `read-8`, `read-6`, `read-0` the verdict by its tests; `readable`, `accepted` what a verdict of 0 says, `read-done` and back; `read-refused`, `read-taken` the call;
 --   `read-long` a file that is not refused has a block.
 use mathlib.Core.Path.{_≡_, refl, sym, ap, ap₂, _∙_}
-use mathlib.Core.Bool.{Bool, true, false, not, _&&_, _||_}
+use mathlib.Core.Bool.{Bool, true, false, not, _||_}
 use mathlib.Core.List.{List, _++_}
-use Prim.Native.Nat.{ℕ, _+_, _-_, _*_, _/_, _%_, _≤_, _<_}
+use Prim.Native.Nat.{ℕ, _-_, _%_, _≤_, _<_}
 use native.Mathlib.Omega.{arith}
 use lib.Dec.{eqb, ltb}
 use lib.ListN.{length, drop, replicate}
-use borrow.Author.Tests.{lt-ltb, le-ltb, ltb-false, eq-eqb, ne-eqb, eqb-true, eqb-false, not-true, not-false}
+use borrow.Author.Tests.{lt-ltb, le-ltb, ltb-false, eq-eqb, ne-eqb, eqb-true, eqb-false, not-false}
 use Rattle.tally.specs.Tally.{tally, firstAt, firstFrom}
-use Rattle.tally.proofs.Test.{by-test, no}
+use Rattle.tally.proofs.Test.{no}
 use Rattle.matte.specs.declared.Answer.{Answer}
 use Rattle.matte.specs.declared.Verdict.{Verdict}
 use Rattle.matte.specs.Layout.{eight}
 use Rattle.matte.specs.Refusal.{Row, row, rowAt, wordsRow, afterwards}
 use Rattle.matte.proofs.Rows.{done-answer, refused-answer, done-after, refused-after}
 use Rattle.edgel.specs.Word.{flagged, badWord, wordsFitRow}
-use Rattle.olr.specs.declared.Stored.{Stored}
 use Rattle.olr.specs.Read.{blocks, checkFits, fileWidth, fileHeight, fileBorder, fileCount, fileWordCount, fileLevels, fileWords, laidOut, readVerdict, readAnswer, readWords}
 use Rattle.olr.specs.Held.{stored}
-use Rattle.olr.proofs.Five.{Passed, first-0, first-1, first-2, first-3, first-4, first-5, passed-all}
+use Rattle.olr.proofs.Five.{first-0, first-1, first-2, first-3, first-4, first-5, passed-all}
 use Rattle.olr.proofs.Taken.{words-length}
 
 -- not empty, and whole blocks
@@ -127,6 +126,9 @@ module _ (f : List ℕ) where
           roomy = ltb-false _ _ (P .five);
         }
 
+    pub accepted : (t : Verdict) → t ≡ readVerdict f out → t .number ≡ 0 → Readable out
+    accepted t e z = readable (sym (ap (λ (u : Verdict). u .number) e) ∙ z)
+
     pub read-done : Readable out → readVerdict f out .number ≡ 0
     read-done R =
         ap (λ (t : Verdict). t .number)
@@ -149,8 +151,7 @@ module _ (f : List ℕ) where
         ap (λ (u : Verdict). record { number = u .number; place = u .place; words = 0; lines = 0 }) e ∙ sym (refused-answer T (fileWordCount f) (tally (flagged eight) (fileWords f)) y) in
         let n : (d : ℕ) → 0 ≡ afterwards T 0 d = λ d. sym (refused-after T 0 d y) in
         let l : replicate 255 0 ≡ afterwards T (replicate 255 0) (fileLevels f ++ replicate (255 - fileCount f) 0) =
-        sym (refused-after T (replicate 255 0) (fileLevels f ++ replicate (255 - fileCount f) 0) y) in
-        (
+        sym (refused-after T (replicate 255 0) (fileLevels f ++ replicate (255 - fileCount f) 0) y) in (
           λ i. record {
             answer = a i;
             width = n (fileWidth f) i;
@@ -171,8 +172,7 @@ module _ (f : List ℕ) where
         ap₂ (λ (k m : ℕ). record { number = 0; place = 0; words = k; lines = m }) e g ∙ sym (done-answer T (fileWordCount f) (tally (flagged eight) (fileWords f)) z) in
         let d : (x : ℕ) → x ≡ afterwards T 0 x = λ x. sym (done-after T 0 x z) in
         let l : fileLevels f ++ replicate (255 - fileCount f) 0 ≡ afterwards T (replicate 255 0) (fileLevels f ++ replicate (255 - fileCount f) 0) =
-        sym (done-after T (replicate 255 0) (fileLevels f ++ replicate (255 - fileCount f) 0) z) in
-        (
+        sym (done-after T (replicate 255 0) (fileLevels f ++ replicate (255 - fileCount f) 0) z) in (
           λ i. record {
             answer = a i;
             width = d (fileWidth f) i;

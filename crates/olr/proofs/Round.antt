@@ -3,35 +3,33 @@
 -- Main laws: `reads-back` the file of every input that writing accepts says what was written; `round` reading accepts it, where there is room for the words; `round-answer`, `round-words` what the reading call
 --   hands back then; `written` the file stands at the front of the room that was lent; `file-told` different inputs have different files.
 use mathlib.Core.Path.{_≡_, refl, sym, ap, ap₂, _∙_}
-use mathlib.Core.Bool.{Bool, true, false, not, _&&_}
+use mathlib.Core.Bool.{true, not, _&&_}
 use mathlib.Core.List.{List, _++_}
-use Prim.Native.Nat.{ℕ, zero, suc, _+_, _-_, _*_, _/_, _%_, _≤_, _<_}
+use Prim.Native.Nat.{ℕ, _+_, _-_, _*_, _/_, _%_, _≤_, _<_}
 use native.Mathlib.Omega.{arith}
 use lib.Dec.{eqb}
-use lib.ListN.{length, getD, take, drop, replicate, length-take, length-drop, length-append}
+use lib.ListN.{length, take, drop, replicate, length-take, length-drop}
 use lib.Seq.{take-at, drop-at}
 use borrow.Author.Tests.{eqb-true, eqb-false}
-use Rattle.tally.specs.Tally.{tally, firstAt, firstFrom}
+use Rattle.tally.specs.Tally.{tally, firstAt}
 use Rattle.tally.proofs.Test.{by-test}
 use Rattle.tally.proofs.First.{from-is}
 use Rattle.tally.proofs.Build.{is-build}
-use Rattle.matte.specs.declared.Answer.{Answer}
 use Rattle.matte.specs.Layout.{eight}
 use Rattle.matte.specs.Picture.{sideFits, levelsFit}
 use Rattle.matte.proofs.Rows.{done-after}
 use Rattle.edgel.specs.Word.{flagged, badWord}
 use Rattle.refuse.proofs.Sides.{sides-in}
-use Rattle.block.specs.Block.{num4, pad}
+use Rattle.block.specs.Block.{num4}
 use Rattle.block.proofs.Bytes.{Below}
-use Rattle.olr.specs.declared.Stored.{Stored}
 use Rattle.olr.specs.File.{header, wordBytes, blocksFor, file, fileLength, writeVerdict, writeRoom}
 use Rattle.olr.specs.Read.{zeros, blocks, payload, checkFits, fileWidth, fileHeight, fileBorder, fileCount, fileWordCount, fileLevels, fileWords, afterLevels, afterWords, laidOut, readVerdict, readAnswer, readWords}
 use Rattle.olr.proofs.Words.{bytes-length}
 use Rattle.olr.proofs.Zeros.{are-zeros}
 use Rattle.olr.proofs.Ascend.{levels-length}
-use Rattle.olr.proofs.Laid.{Laid, laid-back, after-none, after-words}
+use Rattle.olr.proofs.Laid.{laid-back, after-none, after-words}
 use Rattle.olr.proofs.Write.{Writable, writable}
-use Rattle.olr.proofs.Read.{Readable, read-done, read-taken, badAt, badBlock}
+use Rattle.olr.proofs.Read.{read-done, read-taken, badAt, badBlock}
 use Rattle.olr.proofs.There.{wide, tall, bordered, counted, worded, lettered, spared, leveled, file-length, file-blocks, file-head, file-word, checked-there, word-there}
 
 -- the file reads as these sides, border value, levels and words
@@ -188,8 +186,7 @@ pub file-told : (w h v : ℕ) (ks ws room : List ℕ) (w′ h′ v′ : ℕ) (ks
     → writeVerdict w′ h′ v′ ks′ ws′ room′ .number ≡ 0 → file w h v ks ws ≡ file w′ h′ v′ ks′ ws′ → (w ≡ w′) × (h ≡ h′) × (v ≡ v′) × (ks ≡ ks′) × (ws ≡ ws′)
 file-told w h v ks ws room w′ h′ v′ ks′ ws′ room′ b b′ d d′ e =
     let B = reads-back w h v ks ws room b d in
-    let C = reads-back w′ h′ v′ ks′ ws′ room′ b′ d′ in
-    (
+    let C = reads-back w′ h′ v′ ks′ ws′ room′ b′ d′ in (
       sym (B .width) ∙ ap fileWidth e ∙ C .width,
       sym (B .height) ∙ ap fileHeight e ∙ C .height,
       sym (B .border) ∙ ap fileBorder e ∙ C .border,

@@ -10,7 +10,7 @@ use native.Mathlib.Numerals.{add-one}
 use native.Mathlib.Omega.{arith}
 use lib.ListN.{length, getD, take, drop, replicate, length-take, length-drop}
 use lib.Seq.{take-suc, take-length, getD-take, getD-drop}
-use Rattle.tally.specs.Tally.{one, tally, build}
+use Rattle.tally.specs.Tally.{one, tally}
 use Rattle.tally.proofs.Build.{build-length, build-at}
 use Rattle.tally.proofs.Count.{tally-append}
 use Rattle.matte.specs.Layout.{eight}

@@ -1,22 +1,19 @@
 -- What reading finds in a file as it is written. Assumes nothing.
 -- Main laws: `bytes-at` a word among the bytes of words; `block-payload`, `block-checks` a block that stands in a file; `file-length`, `file-blocks`; `file-head` block 0, `file-word` a block of words in the
 --   file; `wide`, `high`, `border`, `counted`, `worded`, `leveled`, `words-read` what the file says is what was written; `laid-there` it keeps the layout; `checked-there` its checks are right.
-use mathlib.Core.Path.{_≡_, refl, sym, ap, ap₂, _∙_}
-use mathlib.Core.Bool.{Bool, true, false, not, _&&_, cond}
+use mathlib.Core.Path.{_≡_, refl, sym, ap, _∙_}
+use mathlib.Core.Bool.{true}
 use mathlib.Core.List.{List, [], _∷_, _++_, append-assoc}
 use Prim.Native.Nat.{ℕ, zero, suc, _+_, _-_, _*_, _/_, _%_, _≤_, _<_}
-use native.Mathlib.Nat.{add-assoc}
 use native.Mathlib.Omega.{arith}
-use lib.Dec.{eqb, ltb, leb}
 use lib.ListN.{length, getD, take, drop, replicate, length-append, length-take, length-drop}
-use lib.Seq.{take-at, drop-at, drop-append-add, take-append-le, getD-take, getD-drop, length-take-le}
-use borrow.Author.Tests.{eq-eqb, ne-eqb, eqb-true, eqb-false}
-use Rattle.tally.proofs.Test.{by-test}
-use Rattle.block.specs.Block.{le2, le4, num2, num4, check, pad, block}
+use lib.Seq.{take-at, drop-append-add, getD-take, getD-drop}
+use borrow.Author.Tests.{eq-eqb}
+use Rattle.block.specs.Block.{le4, num2, num4, check, pad, block}
 use Rattle.block.proofs.Check.{check-below}
-use Rattle.block.proofs.Bytes.{Below, below-take, below-drop, num4-le4, num2-le2, num4-front, num4-after, num4-drop, length-pad, length-block}
+use Rattle.block.proofs.Bytes.{Below, below-take, below-drop, num4-le4, num2-le2, num4-front, num4-after, num4-drop, length-pad}
 use Rattle.olr.specs.File.{letters, header, wordBytes, blocksFor, wordBlocks, file}
-use Rattle.olr.specs.Read.{zeros, blocks, payload, checkFits, fileWidth, fileHeight, fileBorder, fileCount, fileWordCount, fileLevels, fileWords, afterLevels, afterWords}
+use Rattle.olr.specs.Read.{blocks, payload, checkFits, fileWidth, fileHeight, fileBorder, fileCount, fileWordCount, fileLevels}
 use Rattle.olr.proofs.Words.{bytes-length}
 use Rattle.olr.proofs.Blocks.{words127, fits-127, blocks-length, blocks-drop}
 use Rattle.olr.proofs.Head.{head-fits, head-length}

@@ -1,9 +1,9 @@
 -- The refusals of writing, one row after the other. Assumes nothing.
 -- Definitions: `Writable` what a call that is not refused has.
--- Main laws: `write-1`, `write-3`, `write-16`, `write-8`, `write-15`, `write-0` the verdict by its tests; `writable` what a verdict of 0 says, `write-done` and back;
+-- Main laws: `write-1`, `write-3`, `write-16`, `write-8`, `write-15`, `write-0` the verdict by its tests; `writable`, `accepted` what a verdict of 0 says, `write-done` and back;
 --   `write-refused`, `write-written` the call.
 use mathlib.Core.Path.{_≡_, refl, sym, ap, _∙_}
-use mathlib.Core.Bool.{Bool, true, false, not, _&&_}
+use mathlib.Core.Bool.{true, false, not, _&&_}
 use mathlib.Core.List.{List, _++_}
 use Prim.Native.Nat.{ℕ, _+_, _*_, _≤_, _<_}
 use native.Mathlib.Omega.{arith}
@@ -12,7 +12,6 @@ use lib.ListN.{length, take, drop}
 use lib.Seq.{take-at, drop-append-add, drop-drop}
 use borrow.Author.Tests.{lt-ltb, le-ltb, ltb-false, not-false}
 use Rattle.tally.specs.Tally.{firstAt}
-use Rattle.matte.specs.declared.Answer.{Answer}
 use Rattle.matte.specs.declared.Verdict.{Verdict}
 use Rattle.matte.specs.Layout.{eight}
 use Rattle.matte.specs.Picture.{sideFits, levelsFit}
@@ -23,7 +22,7 @@ use Rattle.block.specs.Block.{pad, block}
 use Rattle.olr.specs.File.{limit, header, blocksFor, wordBlocks, file, fileLength, writeVerdict, writeAnswer, writeRoom}
 use Rattle.olr.proofs.Ascend.{levels-length}
 use Rattle.olr.proofs.Head.{head-length}
-use Rattle.olr.proofs.Five.{Passed, first-0, first-1, first-2, first-3, first-4, first-5, passed-all}
+use Rattle.olr.proofs.Five.{first-0, first-1, first-2, first-3, first-4, first-5, passed-all}
 
 pub file-is : (w h v : ℕ) (ks ws : List ℕ) → file w h v ks ws ≡ block 0 (pad (header w h v ks (length ws))) ++ wordBlocks 1 (blocksFor (length ws)) ws
 unfolding file
@@ -96,6 +95,9 @@ module _ (w h v : ℕ) (ks ws : List ℕ) where
           roomy = ltb-false _ _ (P .five);
         }
 
+    pub accepted : (t : Verdict) → t ≡ writeVerdict w h v ks ws room → t .number ≡ 0 → Writable room
+    accepted t e z = writable (sym (ap (λ (u : Verdict). u .number) e) ∙ z)
+
     pub write-done : Writable room → writeVerdict w h v ks ws room .number ≡ 0
     write-done W =
         ap (λ (t : Verdict). t .number)
@@ -106,8 +108,7 @@ module _ (w h v : ℕ) (ks ws : List ℕ) where
         → (record { number = t .number; place = t .place; words = 0; lines = 0 } ≡ writeAnswer w h v ks ws room) × (room ≡ writeRoom w h v ks ws room)
     write-refused t e z =
         let T = writeVerdict w h v ks ws room in
-        let y : T .number ≡ 0 → ⊥ = λ q. z (ap (λ (u : Verdict). u .number) e ∙ q) in
-        (
+        let y : T .number ≡ 0 → ⊥ = λ q. z (ap (λ (u : Verdict). u .number) e ∙ q) in (
           ap (λ (u : Verdict). record { number = u .number; place = u .place; words = 0; lines = 0 }) e ∙ sym (refused-answer T 0 0 y),
           sym (refused-after T room (file w h v ks ws ++ drop (fileLength w h v ks ws) room) y),
         )
@@ -128,12 +129,11 @@ module _ (w h v : ℕ) (ks ws : List ℕ) where
         ap (λ (j : ℕ). drop j (b ++ drop 512 room)) k
         ∙ drop-append-add b (drop 512 room) (512 * m)
         ∙ drop-drop (512 * m) 512 room
-        ∙ ap (λ (j : ℕ). drop j room) (let q : 512 + 512 * m ≡ 512 * (1 + m) = omega arith in q) in
-        (
+        ∙ ap (λ (j : ℕ). drop j room) (let q : 512 + 512 * m ≡ 512 * (1 + m) = omega arith in q) in (
           sym (done-answer T 0 0 z),
           f
-          ∙ ap (λ (x : List ℕ). (x ++ wordBlocks 1 m ws) ++ drop (512 * (1 + m)) (b ++ drop 512 room)) (t ∙ e)
-          ∙ ap (λ (x : List ℕ). (block 0 (pad (header w h v ks n)) ++ wordBlocks 1 m ws) ++ x) d
-          ∙ ap (λ (x : List ℕ). x ++ drop (512 * (1 + m)) room) (sym (file-is w h v ks ws))
-          ∙ sym (done-after T room (file w h v ks ws ++ drop (fileLength w h v ks ws) room) z),
+              ∙ ap (λ (x : List ℕ). (x ++ wordBlocks 1 m ws) ++ drop (512 * (1 + m)) (b ++ drop 512 room)) (t ∙ e)
+              ∙ ap (λ (x : List ℕ). (block 0 (pad (header w h v ks n)) ++ wordBlocks 1 m ws) ++ x) d
+              ∙ ap (λ (x : List ℕ). x ++ drop (512 * (1 + m)) room) (sym (file-is w h v ks ws))
+              ∙ sym (done-after T room (file w h v ks ws ++ drop (fileLength w h v ks ws) room) z),
         )

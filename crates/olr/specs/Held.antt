@@ -4,7 +4,6 @@ use mathlib.Core.Path.{_≡_}
 use mathlib.Core.List.{List, _++_}
 use Prim.Native.Nat.{ℕ, _+_, _-_, _*_, _≤_}
 use lib.ListN.{length, replicate}
-use Rattle.matte.specs.declared.Answer.{Answer}
 use Rattle.olr.specs.declared.Stored.{Stored}
 use Rattle.olr.specs.File.{limit, blocksFor}
 use Rattle.olr.specs.Read.{fileWidth, fileHeight, fileBorder, fileCount, fileWordCount, fileLevels}

@@ -1,10 +1,11 @@
 // The parts of a file as it is read: the checks, the layout, the refusals, levels and words.
+use crate::Stored;
+use crate::put::blocks_for;
+use crate::put::verdict_of;
 use block::check_fits;
 use block::num2_at;
 use block::num4_at;
 use edgel::flagged;
-use crate::Stored;
-use crate::put::blocks_for;
 use matte::Answer;
 use matte::Verdict;
 use refuse::levels_fit;
@@ -16,7 +17,7 @@ ghost use mathlib.Core.Bool.{not, _&&_};
 ghost use mathlib.Core.List.{_++_};
 ghost use Prim.Native.Nat.{_+_, _-_, _*_, _/_, _%_, _≤_, _<_};
 ghost use lib.Dec.{eqb, leb};
-ghost use lib.ListN.{length, take, drop, replicate};
+ghost use lib.ListN.{length, drop, replicate};
 ghost use Rattle.tally.specs.Tally.{one, tally, firstAt, firstFrom};
 ghost use Rattle.matte.specs.Layout.{eight};
 ghost use Rattle.matte.specs.Picture.{sideFits, levelsFit};
@@ -198,11 +199,23 @@ pub fn stored_of(file: &[u8], n: usize, lines: usize) -> Stored
     requires { ⌜ 512 ≤ length (now file) ⌝ }
     ensures { λ r. ⌜ r ≡ stored (now (file .entry)) n lines ⌝ }
 {
-    let a = Answer { number: 0, place: 0, words: n, lines: lines };
+    let a = Answer {
+        number: 0,
+        place: 0,
+        words: n,
+        lines: lines,
+    };
     let ks = levels_of(file);
     let m = level_count(file) as u32;
     let v = file[8] as u32;
-    Stored { answer: a, width: num2_at(file, 4), height: num2_at(file, 6), border: v, count: m, levels: ks }
+    Stored {
+        answer: a,
+        width: num2_at(file, 4),
+        height: num2_at(file, 6),
+        border: v,
+        count: m,
+        levels: ks,
+    }
 }
 
 // Refusals 12 13 14 8 6, or 0 with none.
@@ -210,26 +223,31 @@ pub fn read_verdict(file: &[u8], words: &[u32]) -> Verdict
     ensures { λ r. ⌜ r ≡ readVerdict (now (file .entry)) (now (words .entry)) ⌝ }
 {
     if file.len() == 0 {
-        return Verdict { number: 12, place: 0 };
+        return verdict_of(12, 0);
     }
     if file.len() % 512 != 0 {
-        return Verdict { number: 12, place: 0 };
+        return verdict_of(12, 0);
     }
     let bad = first_bad_block(file);
     let laid = laid_out(file);
     if bad < file.len() / 512 {
-        return Verdict { number: 13, place: bad };
+        return verdict_of(13, bad);
     }
     if !laid {
-        return Verdict { number: 14, place: 0 };
+        return verdict_of(14, 0);
     }
     let n = num4_at(file, 12) as usize;
-    let k = first_bad(file, num2_at(file, 4) as usize, num2_at(file, 6) as usize, n);
+    let k = first_bad(
+        file,
+        num2_at(file, 4) as usize,
+        num2_at(file, 6) as usize,
+        n,
+    );
     if k < n {
-        return Verdict { number: 8, place: k };
+        return verdict_of(8, k);
     }
     if words.len() < n {
-        return Verdict { number: 6, place: n };
+        return verdict_of(6, n);
     }
-    Verdict { number: 0, place: 0 }
+    verdict_of(0, 0)
 }

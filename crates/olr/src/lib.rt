@@ -26,17 +26,34 @@ pub struct Stored {
 }
 
 // Writes the file of an outline list: sides, border value, levels and words.
-pub fn write_file(w: usize, h: usize, v: u8, levels: &[u8], words: &[u32], file: &mut [u8]) -> Answer
+pub fn write_file(
+    w: usize,
+    h: usize,
+    v: u8,
+    levels: &[u8],
+    words: &[u32],
+    file: &mut [u8],
+) -> Answer
     ensures { λ r. ⌜ (r ≡ writeAnswer w h v (now (levels .entry)) (now (words .entry)) (now (file .entry)))
         × (now (file .exit) ≡ writeRoom w h v (now (levels .entry)) (now (words .entry)) (now (file .entry))) ⌝ }
 {
     let t = write_verdict(w, h, levels, words, &file[..]);
     if t.number != 0 {
-        return Answer { number: t.number, place: t.place, words: 0, lines: 0 };
+        return Answer {
+            number: t.number,
+            place: t.place,
+            words: 0,
+            lines: 0,
+        };
     }
     put_head(&mut file[0..512], w, h, v, levels, words.len());
     put_words(file, words);
-    Answer { number: 0, place: 0, words: 0, lines: 0 }
+    Answer {
+        number: 0,
+        place: 0,
+        words: 0,
+        lines: 0,
+    }
 }
 
 // Reads a file: its words into the first places, and what else it says.
@@ -46,9 +63,21 @@ pub fn read_file(file: &[u8], words: &mut [u32]) -> Stored
 {
     let t = read_verdict(file, &words[..]);
     if t.number != 0 {
-        let a = Answer { number: t.number, place: t.place, words: 0, lines: 0 };
+        let a = Answer {
+            number: t.number,
+            place: t.place,
+            words: 0,
+            lines: 0,
+        };
         let none = [0u8; 255];
-        return Stored { answer: a, width: 0, height: 0, border: 0, count: 0, levels: none };
+        return Stored {
+            answer: a,
+            width: 0,
+            height: 0,
+            border: 0,
+            count: 0,
+            levels: none,
+        };
     }
     let n = num4_at(file, 12) as usize;
     let lines = take_words(file, n, words);

@@ -13,6 +13,16 @@ ghost use lib.ListN.{length, take, drop};
 ghost use Rattle.block.specs.Block.{le2, le4, pad, block};
 ghost use Rattle.olr.specs.File.{blocksFor, letters, header, wordBytes, wordBlocks, writeVerdict};
 
+// A refusal's number and place.
+pub fn verdict_of(number: u32, place: usize) -> Verdict
+    ensures { λ r. ⌜ r ≡ record { number = number; place = place } ⌝ }
+{
+    Verdict {
+        number: number,
+        place: place,
+    }
+}
+
 // How many blocks n words take.
 pub fn blocks_for(n: usize) -> usize
     requires { ⌜ n ≤ 16777215 ⌝ }
@@ -26,23 +36,23 @@ pub fn write_verdict(w: usize, h: usize, levels: &[u8], words: &[u32], file: &[u
     ensures { λ r. ⌜ r ≡ writeVerdict w h 0 (now (levels .entry)) (now (words .entry)) (now (file .entry)) ⌝ }
 {
     if !sides_fit(w, h) {
-        return Verdict { number: 1, place: 0 };
+        return verdict_of(1, 0);
     }
     if !levels_fit(levels) {
-        return Verdict { number: 3, place: 0 };
+        return verdict_of(3, 0);
     }
     if 16777215 < words.len() {
-        return Verdict { number: 16, place: 0 };
+        return verdict_of(16, 0);
     }
     let bad = first_bad_word(w, h, levels, words);
     if bad < words.len() {
-        return Verdict { number: 8, place: bad };
+        return verdict_of(8, bad);
     }
     let needed = 512 * (1 + blocks_for(words.len()));
     if file.len() < needed {
-        return Verdict { number: 15, place: needed };
+        return verdict_of(15, needed);
     }
-    Verdict { number: 0, place: 0 }
+    verdict_of(0, 0)
 }
 
 // Letters and sides, 8 bytes.

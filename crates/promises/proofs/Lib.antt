@@ -2,3 +2,4 @@ pub mod SmallPictures
 pub mod DemandThree
 pub mod DemandTwoList
 pub mod DemandTwoPaint
+pub mod DemandTwoFile

@@ -4,10 +4,6 @@ use lib.Dec.{eqb}
 use borrow.Author.Needs.{needs}
 use Rattle.block.proofs.check_fits.Statement.{statement}
 use Rattle.block.proofs.check_fits.Tie as tie
-use Rattle.block.proofs.check_fits.Reads as reads
-use Rattle.block.proofs.check_fits.Lts as lts
-use Rattle.block.proofs.check_of.Reads as check-of-reads
-use Rattle.block.proofs.num4_at.Reads as num4-at-reads
 
 num4-at-requires : tie.Need-num4-at-requires
 num4-at-requires c κs = search needs

@@ -36,12 +36,11 @@ loop-less c = omega arith
 
 loop-again : tie.Need-loop-again Inv-loop μ-loop
 loop-again c =
-    let l = c .before .before .before in
-    (
+    let l = c .before .before .before in (
       omega arith,
       l .loop .inv .1
-      ∙ stirred-more (l .before .before .args .payload .now) (l .loop .s) (l .loop .i) (c .before .before .loop-test .taken)
-      ∙ ap (λ (z : ℕ). stirred z (drop (l .loop .i + 1) (l .before .before .args .payload .now))) (sym (c .stir .ensures)),
+          ∙ stirred-more (l .before .before .args .payload .now) (l .loop .s) (l .loop .i) (c .before .before .loop-test .taken)
+          ∙ ap (λ (z : ℕ). stirred z (drop (l .loop .i + 1) (l .before .before .args .payload .now))) (sym (c .stir .ensures)),
     )
 
 returns : tie.Need-returns Inv-loop μ-loop

@@ -7,8 +7,6 @@ use lib.ListN.{length, take, drop, replicate, length-set}
 use Rattle.block.proofs.Put.{zero-start, zero-more, zero-end}
 use Rattle.block.proofs.clear.Statement.{statement}
 use Rattle.block.proofs.clear.Tie as tie
-use Rattle.block.proofs.clear.Reads as reads
-use Rattle.block.proofs.clear.Lts as lts
 
 abbrev Inv-loop : tie.InvT-loop
 Inv-loop s₀ from i₀ s i =

@@ -5,11 +5,6 @@ use Rattle.block.proofs.Put.{closed}
 use borrow.Author.Needs.{needs}
 use Rattle.block.proofs.close.Statement.{statement}
 use Rattle.block.proofs.close.Tie as tie
-use Rattle.block.proofs.close.Reads as reads
-use Rattle.block.proofs.close.Lts as lts
-use Rattle.block.proofs.check_of.Reads as check-of-reads
-use Rattle.block.proofs.clear.Reads as clear-reads
-use Rattle.block.proofs.put4.Reads as put4-reads
 
 clear-requires : tie.Need-clear-requires
 clear-requires c κs = search needs

@@ -6,8 +6,6 @@ use Rattle.block.proofs.Put.{put-2}
 use borrow.Author.Needs.{needs}
 use Rattle.block.proofs.put2.Statement.{statement}
 use Rattle.block.proofs.put2.Tie as tie
-use Rattle.block.proofs.put2.Reads as reads
-use Rattle.block.proofs.put2.Lts as lts
 
 cast-s : tie.Need-cast-s
 cast-s c = search needs

@@ -6,8 +6,6 @@ use Rattle.block.proofs.Put.{put-4}
 use borrow.Author.Needs.{needs}
 use Rattle.block.proofs.put4.Statement.{statement}
 use Rattle.block.proofs.put4.Tie as tie
-use Rattle.block.proofs.put4.Reads as reads
-use Rattle.block.proofs.put4.Lts as lts
 
 cast-s : tie.Need-cast-s
 cast-s c = search needs

@@ -1,18 +1,12 @@
 -- `olr::read_file` meets its contract. Assumes nothing.
-use mathlib.Core.Path.{_≡_, sym, ap, _∙_}
+use mathlib.Core.Path.{sym, ap, _∙_}
 use native.Mathlib.Omega.{arith}
 use Rattle.matte.specs.declared.Verdict.{Verdict}
 use Rattle.olr.proofs.Laid.{laid, laid-holds}
-use Rattle.olr.proofs.Read.{Readable, readable, read-refused, read-taken, read-long}
+use Rattle.olr.proofs.Read.{accepted, read-refused, read-taken, read-long}
 use borrow.Author.Needs.{needs}
 use Rattle.olr.proofs.read_file.Statement.{statement}
 use Rattle.olr.proofs.read_file.Tie as tie
-use Rattle.olr.proofs.read_file.Reads as reads
-use Rattle.olr.proofs.read_file.Lts as lts
-use Rattle.block.proofs.num4_at.Reads as num4-at-reads
-use Rattle.olr.proofs.get.read_verdict.Reads as read-verdict-reads
-use Rattle.olr.proofs.get.stored_of.Reads as stored-of-reads
-use Rattle.olr.proofs.get.take_words.Reads as take-words-reads
 
 read-verdict-requires : tie.Need-read-verdict-requires
 read-verdict-requires c κs = search needs
@@ -28,7 +22,7 @@ returns c =
 num4-at-requires : tie.Need-num4-at-requires
 num4-at-requires c κs =
     let a = c .before .before .before .before .before .before .args in
-    let R = readable (a .file .now) (a .words .now) (sym (ap (λ (u : Verdict). u .number) (c .before .before .read-verdict .ensures)) ∙ c .if1 .left) in
+    let R = accepted (a .file .now) (a .words .now) (c .before .before .read-verdict .result) (c .before .before .read-verdict .ensures) (c .if1 .left) in
     omega (arith, read-long (a .file .now) (a .words .now) R)
 
 cast-n : tie.Need-cast-n
@@ -37,13 +31,13 @@ cast-n c = search needs
 take-words-requires : tie.Need-take-words-requires
 take-words-requires c κs =
     let a = c .before .before .before .before .before .before .before .before .args in
-    let R = readable (a .file .now) (a .words .now) (sym (ap (λ (u : Verdict). u .number) (c .before .before .before .before .read-verdict .ensures)) ∙ c .before .before .if1 .left) in
+    let R = accepted (a .file .now) (a .words .now) (c .before .before .before .before .read-verdict .result) (c .before .before .before .before .read-verdict .ensures) (c .before .before .if1 .left) in
     (laid-holds (a .file .now) (c .before .num4-at .result) (laid (a .file .now) (R .layout)) (c .before .num4-at .ensures), omega (arith, R .roomy, c .before .num4-at .ensures))
 
 stored-of-requires : tie.Need-stored-of-requires
 stored-of-requires c κs =
     let a = c .before .before .before .before .before .before .before .before .before .before .before .args in
-    let R = readable (a .file .now) (a .words .now) (sym (ap (λ (u : Verdict). u .number) (c .before .before .before .before .before .before .before .read-verdict .ensures)) ∙ c .before .before .before .before .before .if1 .left) in
+    let R = accepted (a .file .now) (a .words .now) (c .before .before .before .before .before .before .before .read-verdict .result) (c .before .before .before .before .before .before .before .read-verdict .ensures) (c .before .before .before .before .before .if1 .left) in
     read-long (a .file .now) (a .words .now) R
 
 same-length-2 : tie.Need-same-length-2

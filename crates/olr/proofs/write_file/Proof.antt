@@ -1,20 +1,15 @@
 -- `olr::write_file` meets its contract. Assumes nothing.
-use mathlib.Core.Path.{_≡_, sym, ap, _∙_}
+use mathlib.Core.Path.{sym, ap, _∙_}
 use native.Mathlib.Omega.{arith}
 use lib.Seq.{length-take-le}
 use borrow.Rule.Slice.PartMut.{same-len-mid}
 use Rattle.matte.specs.declared.Verdict.{Verdict}
 use Rattle.refuse.proofs.Sides.{sides-in}
 use Rattle.olr.proofs.Ascend.{levels-length}
-use Rattle.olr.proofs.Write.{Writable, writable, write-refused, write-written}
+use Rattle.olr.proofs.Write.{accepted, write-refused, write-written}
 use borrow.Author.Needs.{needs}
 use Rattle.olr.proofs.write_file.Statement.{statement}
 use Rattle.olr.proofs.write_file.Tie as tie
-use Rattle.olr.proofs.write_file.Reads as reads
-use Rattle.olr.proofs.write_file.Lts as lts
-use Rattle.olr.proofs.put.put_head.Reads as put-head-reads
-use Rattle.olr.proofs.put.put_words.Reads as put-words-reads
-use Rattle.olr.proofs.put.write_verdict.Reads as write-verdict-reads
 
 write-verdict-requires : tie.Need-write-verdict-requires
 write-verdict-requires c κs = search needs
@@ -36,20 +31,20 @@ part-put-head-start c = search needs
 part-put-head-end : tie.Need-part-put-head-end
 part-put-head-end c =
     let a = c .before .before .before .before .before .before .before .args in
-    let W = writable (a .w) (a .h) (a .v) (a .levels .now) (a .words .now) (a .file .now) (sym (ap (λ (u : Verdict). u .number) (c .before .before .write-verdict .ensures)) ∙ c .if1 .left) in
+    let W = accepted (a .w) (a .h) (a .v) (a .levels .now) (a .words .now) (a .file .now) (c .before .before .write-verdict .result) (c .before .before .write-verdict .ensures) (c .if1 .left) in
     omega (arith, W .roomy)
 
 put-head-requires : tie.Need-put-head-requires
 put-head-requires c κs =
     let a = c .before .before .before .before .before .before .before .before .args in
-    let W = writable (a .w) (a .h) (a .v) (a .levels .now) (a .words .now) (a .file .now) (sym (ap (λ (u : Verdict). u .number) (c .before .before .before .write-verdict .ensures)) ∙ c .before .if1 .left) in
+    let W = accepted (a .w) (a .h) (a .v) (a .levels .now) (a .words .now) (a .file .now) (c .before .before .before .write-verdict .result) (c .before .before .before .write-verdict .ensures) (c .before .if1 .left) in
     let S = sides-in (a .w) (a .h) (W .sides) in
     (length-take-le 512 (a .file .now) (omega (arith, W .roomy)), S .w-most, S .h-most, levels-length (a .levels .now) (W .levels), W .most)
 
 put-words-requires : tie.Need-put-words-requires
 put-words-requires c κs =
     let a = c .before .before .before .before .before .before .before .before .before .before .before .before .args in
-    let W = writable (a .w) (a .h) (a .v) (a .levels .now) (a .words .now) (a .file .now) (sym (ap (λ (u : Verdict). u .number) (c .before .before .before .before .before .before .before .write-verdict .ensures)) ∙ c .before .before .before .before .before .if1 .left) in
+    let W = accepted (a .w) (a .h) (a .v) (a .levels .now) (a .words .now) (a .file .now) (c .before .before .before .before .before .before .before .write-verdict .result) (c .before .before .before .before .before .before .before .write-verdict .ensures) (c .before .before .before .before .before .if1 .left) in
     (W .most, rw (same-len-mid 0 512 (a .file .now) (c .before .before .before .put-head .last .0) (c .before .before .before .put-head .kept .0)) (W .roomy))
 
 same-length-2 : tie.Need-same-length-2

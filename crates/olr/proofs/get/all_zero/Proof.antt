@@ -1,14 +1,12 @@
 -- `olr::get::all_zero` meets its contract: what is left decides. Assumes nothing.
-use mathlib.Core.Path.{_≡_, refl, sym, ap, _∙_}
-use Prim.Native.Nat.{ℕ, _-_, _≤_}
+use mathlib.Core.Path.{_≡_, refl, sym, _∙_}
+use Prim.Native.Nat.{_-_, _≤_}
 use native.Mathlib.Omega.{arith}
 use lib.ListN.{length, drop}
 use Rattle.olr.specs.Read.{zeros}
 use Rattle.olr.proofs.Zeros.{zeros-no, zeros-more, zeros-end}
 use Rattle.olr.proofs.get.all_zero.Statement.{statement}
 use Rattle.olr.proofs.get.all_zero.Tie as tie
-use Rattle.olr.proofs.get.all_zero.Reads as reads
-use Rattle.olr.proofs.get.all_zero.Lts as lts
 
 abbrev Inv-loop : tie.InvT-loop
 Inv-loop s i₀ i = (i ≤ length s) × (zeros s ≡ zeros (drop i s))

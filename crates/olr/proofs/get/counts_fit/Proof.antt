@@ -1,5 +1,5 @@
 -- `olr::get::counts_fit` meets its contract. Assumes nothing.
-use mathlib.Core.Path.{_≡_, sym, ap, _∙_}
+use mathlib.Core.Path.{sym, ap, _∙_}
 use Prim.Native.Nat.{ℕ, _+_}
 use native.Mathlib.Omega.{arith}
 use lib.Dec.{eqb}
@@ -10,11 +10,6 @@ use Rattle.olr.proofs.Chain.{no-and, go-and}
 use borrow.Author.Needs.{needs}
 use Rattle.olr.proofs.get.counts_fit.Statement.{statement}
 use Rattle.olr.proofs.get.counts_fit.Tie as tie
-use Rattle.olr.proofs.get.counts_fit.Reads as reads
-use Rattle.olr.proofs.get.counts_fit.Lts as lts
-use Rattle.block.proofs.num2_at.Reads as num2-at-reads
-use Rattle.block.proofs.num4_at.Reads as num4-at-reads
-use Rattle.olr.proofs.put.blocks_for.Reads as blocks-for-reads
 
 num4-at-requires : tie.Need-num4-at-requires
 num4-at-requires c κs = search needs

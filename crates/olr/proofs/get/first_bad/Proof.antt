@@ -5,7 +5,7 @@ use Prim.Native.Nat.{ℕ, _+_, _-_, _≤_, _<_}
 use native.Mathlib.Omega.{arith}
 use borrow.Author.Count.{below-none, below-more}
 use borrow.Author.Needs.{needs}
-use lib.ListN.{length, getD}
+use lib.ListN.{getD}
 use Rattle.matte.specs.Layout.{eight}
 use Rattle.edgel.specs.Word.{badWord}
 use Rattle.words.proofs.Search.{stop, end}
@@ -13,12 +13,6 @@ use Rattle.olr.specs.Read.{fileLevels, fileWords}
 use Rattle.olr.proofs.Taken.{words-length, place-there, bad-told}
 use Rattle.olr.proofs.get.first_bad.Statement.{statement}
 use Rattle.olr.proofs.get.first_bad.Tie as tie
-use Rattle.olr.proofs.get.first_bad.Reads as reads
-use Rattle.olr.proofs.get.first_bad.Lts as lts
-use Rattle.olr.proofs.get.level_count.Reads as level-count-reads
-use Rattle.olr.proofs.get.word_at.Reads as word-at-reads
-use Rattle.words.proofs.level_table.Reads as level-table-reads
-use Rattle.words.proofs.word_fits.Reads as word-fits-reads
 
 abbrev Inv-loop : tie.InvT-loop
 Inv-loop file w h n m t i₀ i =
@@ -82,17 +76,16 @@ loop-again : tie.Need-loop-again Inv-loop μ-loop
 loop-again c =
     let l = c .before .before .before .before .before in
     let s = c .before .before .before .before .before .before .before .before .before .before in
-    let f = s .args .file .now in
-    (
+    let f = s .args .file .now in (
       omega arith,
       below-more _ _ (l .loop .inv .1)
-      (bad-told f (c .before .before .before .before .before .before .level-table .result) (s .args .w) (s .args .h) (l .loop .i) (c .before .before .word-at .result) (16 + c .before .before .before .before .before .before .before .before .level-count .result) (c .before .word-fits .result) false
-      (ap (λ (n : ℕ). 16 + n) (c .before .before .before .before .before .before .before .before .level-count .ensures .0))
-      (c .before .before .before .before .before .before .level-table .ensures)
-      (omega (arith, s .pre .1 .count, c .before .before .before .before .loop-test .taken))
-      (c .before .before .word-at .ensures)
-      (c .before .word-fits .ensures)
-      (c .if1 .left)),
+          (bad-told f (c .before .before .before .before .before .before .level-table .result) (s .args .w) (s .args .h) (l .loop .i) (c .before .before .word-at .result) (16 + c .before .before .before .before .before .before .before .before .level-count .result) (c .before .word-fits .result) false
+          (ap (λ (n : ℕ). 16 + n) (c .before .before .before .before .before .before .before .before .level-count .ensures .0))
+          (c .before .before .before .before .before .before .level-table .ensures)
+          (omega (arith, s .pre .1 .count, c .before .before .before .before .loop-test .taken))
+          (c .before .before .word-at .ensures)
+          (c .before .word-fits .ensures)
+          (c .if1 .left)),
     )
 
 returns-2 : tie.Need-returns-2 Inv-loop μ-loop

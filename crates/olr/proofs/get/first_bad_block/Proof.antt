@@ -1,17 +1,14 @@
 -- `olr::get::first_bad_block` meets its contract: no block passed has a wrong check. Assumes nothing.
-use mathlib.Core.Path.{_≡_, refl, sym, ap, _∙_}
-use mathlib.Core.Bool.{Bool, true, false, not}
+use mathlib.Core.Path.{_≡_, sym, ap, _∙_}
+use mathlib.Core.Bool.{false, not}
 use Prim.Native.Nat.{ℕ, _+_, _-_, _*_, _≤_, _<_}
 use native.Mathlib.Omega.{arith}
-use lib.ListN.{length, drop, length-take, length-drop}
+use lib.ListN.{drop, length-take, length-drop}
 use borrow.Author.Count.{below-none, below-more}
 use Rattle.olr.specs.Read.{checkFits}
 use Rattle.olr.proofs.Checks.{check-part, bad-stop, bad-end}
 use Rattle.olr.proofs.get.first_bad_block.Statement.{statement}
 use Rattle.olr.proofs.get.first_bad_block.Tie as tie
-use Rattle.olr.proofs.get.first_bad_block.Reads as reads
-use Rattle.olr.proofs.get.first_bad_block.Lts as lts
-use Rattle.block.proofs.check_fits.Reads as check-fits-reads
 
 abbrev Inv-loop : tie.InvT-loop
 Inv-loop file n i₀ i = (i ≤ n) × ((j : ℕ) → j < i → not (checkFits file j) ≡ false)
@@ -59,8 +56,7 @@ loop-less c = omega arith
 loop-again : tie.Need-loop-again Inv-loop μ-loop
 loop-again c =
     let l = c .before .before .before .before in
-    let f = c .before .before .before .before .before .before .args .file .now in
-    (
+    let f = c .before .before .before .before .before .before .args .file .now in (
       omega arith,
       below-more _ _ (l .loop .inv .1) (ap not (sym (check-part f (l .loop .i) (512 * l .loop .i + 512 - 512 * l .loop .i) _ (omega arith) (c .before .check-fits .ensures))) ∙ c .if1 .left),
     )

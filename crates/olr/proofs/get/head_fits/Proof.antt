@@ -11,13 +11,6 @@ use Rattle.olr.proofs.Laid.{levels-part, after-levels}
 use borrow.Author.Needs.{needs}
 use Rattle.olr.proofs.get.head_fits.Statement.{statement}
 use Rattle.olr.proofs.get.head_fits.Tie as tie
-use Rattle.olr.proofs.get.head_fits.Reads as reads
-use Rattle.olr.proofs.get.head_fits.Lts as lts
-use Rattle.block.proofs.num2_at.Reads as num2-at-reads
-use Rattle.olr.proofs.get.all_zero.Reads as all-zero-reads
-use Rattle.olr.proofs.get.level_count.Reads as level-count-reads
-use Rattle.refuse.proofs.levels_fit.Reads as levels-fit-reads
-use Rattle.refuse.proofs.sides_fit.Reads as sides-fit-reads
 
 both-sides : {a b x y : ℕ} → a ≡ x → b ≡ y → (sideFits x && sideFits y) ≡ (sideFits a && sideFits b)
 both-sides p q = ap₂ (λ (s t : ℕ). sideFits s && sideFits t) (sym p) (sym q)

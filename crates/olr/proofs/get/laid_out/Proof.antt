@@ -6,11 +6,6 @@ use Rattle.olr.proofs.Laid.{laid-parts}
 use borrow.Author.Needs.{needs}
 use Rattle.olr.proofs.get.laid_out.Statement.{statement}
 use Rattle.olr.proofs.get.laid_out.Tie as tie
-use Rattle.olr.proofs.get.laid_out.Reads as reads
-use Rattle.olr.proofs.get.laid_out.Lts as lts
-use Rattle.olr.proofs.get.counts_fit.Reads as counts-fit-reads
-use Rattle.olr.proofs.get.head_fits.Reads as head-fits-reads
-use Rattle.olr.proofs.get.tail_fits.Reads as tail-fits-reads
 
 counts-fit-requires : tie.Need-counts-fit-requires
 counts-fit-requires c κs = search needs

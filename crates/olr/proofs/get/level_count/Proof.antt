@@ -4,8 +4,6 @@ use native.Mathlib.Omega.{arith}
 use borrow.Author.Needs.{needs}
 use Rattle.olr.proofs.get.level_count.Statement.{statement}
 use Rattle.olr.proofs.get.level_count.Tie as tie
-use Rattle.olr.proofs.get.level_count.Reads as reads
-use Rattle.olr.proofs.get.level_count.Lts as lts
 
 shared-slice-read-result : tie.Need-shared-slice-read-result
 shared-slice-read-result c = search needs

@@ -1,5 +1,5 @@
 -- `olr::get::levels_of` meets its contract: the levels so far, then zeros. Assumes nothing.
-use mathlib.Core.Path.{_≡_, refl, sym, ap, _∙_}
+use mathlib.Core.Path.{_≡_, refl}
 use mathlib.Core.List.{_++_}
 use Prim.Native.Nat.{ℕ, _+_, _-_, _≤_, _<_}
 use native.Mathlib.Omega.{arith}
@@ -9,9 +9,6 @@ use Rattle.olr.specs.Read.{fileCount, fileLevels}
 use Rattle.olr.proofs.Taken.{levels-length, levels-at, levels-rest}
 use Rattle.olr.proofs.get.levels_of.Statement.{statement}
 use Rattle.olr.proofs.get.levels_of.Tie as tie
-use Rattle.olr.proofs.get.levels_of.Reads as reads
-use Rattle.olr.proofs.get.levels_of.Lts as lts
-use Rattle.olr.proofs.get.level_count.Reads as level-count-reads
 
 abbrev Inv-loop : tie.InvT-loop
 Inv-loop file n ks₀ i₀ ks i = (i ≤ n) × (ks ≡ take i (fileLevels file) ++ drop i (replicate 255 0))
@@ -47,8 +44,7 @@ loop-again c =
     let f = s .args .file .now in
     let i = l .loop .i in
     let k : fileCount f < 256 = omega (arith, c .before .before .before .level-count .ensures .0, c .before .before .before .level-count .ensures .1) in
-    let h : i < fileCount f = omega (arith, c .before .before .before .level-count .ensures .0, c .before .loop-test .taken) in
-    (
+    let h : i < fileCount f = omega (arith, c .before .before .before .level-count .ensures .0, c .before .loop-test .taken) in (
       omega arith,
       fill (fileLevels f) (replicate 255 0) (l .loop .ks) i (getD f (16 + i) 0) (omega (arith, levels-length f (s .pre) k)) (omega (arith, length-replicate 255 (let z : ℕ = 0 in z))) (l .loop .inv .1) (levels-at f (s .pre) k i h),
     )

@@ -5,9 +5,6 @@ use Rattle.tally.specs.Tally.{one}
 use borrow.Author.Needs.{needs}
 use Rattle.olr.proofs.get.mark.Statement.{statement}
 use Rattle.olr.proofs.get.mark.Tie as tie
-use Rattle.olr.proofs.get.mark.Reads as reads
-use Rattle.olr.proofs.get.mark.Lts as lts
-use Rattle.edgel.proofs.flagged.Reads as flagged-reads
 
 flagged-requires : tie.Need-flagged-requires
 flagged-requires c κs = search needs

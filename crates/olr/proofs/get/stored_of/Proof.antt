@@ -4,11 +4,6 @@ use lib.ListN.{getD}
 use borrow.Author.Needs.{needs}
 use Rattle.olr.proofs.get.stored_of.Statement.{statement}
 use Rattle.olr.proofs.get.stored_of.Tie as tie
-use Rattle.olr.proofs.get.stored_of.Reads as reads
-use Rattle.olr.proofs.get.stored_of.Lts as lts
-use Rattle.block.proofs.num2_at.Reads as num2-at-reads
-use Rattle.olr.proofs.get.level_count.Reads as level-count-reads
-use Rattle.olr.proofs.get.levels_of.Reads as levels-of-reads
 
 levels-of-requires : tie.Need-levels-of-requires
 levels-of-requires c κs = search needs

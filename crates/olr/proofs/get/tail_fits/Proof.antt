@@ -7,10 +7,6 @@ use Rattle.olr.proofs.Laid.{after-none, after-some}
 use borrow.Author.Needs.{needs}
 use Rattle.olr.proofs.get.tail_fits.Statement.{statement}
 use Rattle.olr.proofs.get.tail_fits.Tie as tie
-use Rattle.olr.proofs.get.tail_fits.Reads as reads
-use Rattle.olr.proofs.get.tail_fits.Lts as lts
-use Rattle.block.proofs.num4_at.Reads as num4-at-reads
-use Rattle.olr.proofs.get.all_zero.Reads as all-zero-reads
 
 num4-at-requires : tie.Need-num4-at-requires
 num4-at-requires c κs = search needs

@@ -1,7 +1,7 @@
 -- `olr::get::take_words` meets its contract: the words so far, then what was there, and their flags. Assumes nothing.
 use mathlib.Core.Path.{_≡_, refl, sym, ap, _∙_}
 use mathlib.Core.List.{_++_}
-use Prim.Native.Nat.{ℕ, _+_, _-_, _≤_, _<_}
+use Prim.Native.Nat.{ℕ, _-_, _≤_, _<_}
 use native.Mathlib.Omega.{arith}
 use borrow.Author.Needs.{needs}
 use lib.ListN.{length, getD, take, drop, length-set}
@@ -13,10 +13,6 @@ use Rattle.olr.specs.Read.{fileWords}
 use Rattle.olr.proofs.Taken.{words-length, words-at, place-there, flags-start, flags-more, flags-all}
 use Rattle.olr.proofs.get.take_words.Statement.{statement}
 use Rattle.olr.proofs.get.take_words.Tie as tie
-use Rattle.olr.proofs.get.take_words.Reads as reads
-use Rattle.olr.proofs.get.take_words.Lts as lts
-use Rattle.olr.proofs.get.mark.Reads as mark-reads
-use Rattle.olr.proofs.get.word_at.Reads as word-at-reads
 
 abbrev Inv-loop : tie.InvT-loop
 Inv-loop file n words₀ lines₀ i₀ words lines i =
@@ -60,8 +56,7 @@ loop-again c =
     let f = s .args .file .now in
     let i = l .loop .i in
     let h : i < length (fileWords f) = omega (arith, words-length f, s .pre .0 .count, c .before .before .loop-test .taken) in
-    let u : c .before .word-at .result ≡ getD (fileWords f) i 0 = c .before .word-at .ensures ∙ sym (words-at f i (omega (arith, s .pre .0 .count, c .before .before .loop-test .taken))) in
-    (
+    let u : c .before .word-at .result ≡ getD (fileWords f) i 0 = c .before .word-at .ensures ∙ sym (words-at f i (omega (arith, s .pre .0 .count, c .before .before .loop-test .taken))) in (
       omega arith,
       fill (fileWords f) (s .args .words .now) (l .loop .words) i (c .before .word-at .result) h (omega arith) (l .loop .inv .1) u,
       flags-more (flagged eight) (fileWords f) i (l .loop .lines) (c .mark .result) (c .before .word-at .result) h (l .loop .inv .2) u (c .mark .ensures .0),
@@ -78,8 +73,7 @@ returns c =
     let s = c .before .before .before .before in
     let f = s .args .file .now in
     let e : l .loop .i ≡ length (fileWords f) = omega (arith, words-length f, s .pre .0 .count) in
-    let n : length (fileWords f) ≡ s .args .n = omega (arith, words-length f, s .pre .0 .count) in
-    (
+    let n : length (fileWords f) ≡ s .args .n = omega (arith, words-length f, s .pre .0 .count) in (
       flags-all (flagged eight) (fileWords f) (l .loop .i) (l .loop .lines) e (l .loop .inv .2),
       fill-end (fileWords f) (s .args .words .now) (l .loop .words) (l .loop .i) e (l .loop .inv .1) ∙ ap (λ (m : ℕ). fileWords f ++ drop m (s .args .words .now)) n,
     )

@@ -1,7 +1,7 @@
 -- `olr::put::put_block` meets its contract: the words so far, then what was there. Assumes nothing.
-use mathlib.Core.Path.{_≡_, refl, sym, ap, _∙_}
+use mathlib.Core.Path.{_≡_, sym, ap, _∙_}
 use mathlib.Core.List.{List, _++_}
-use Prim.Native.Nat.{ℕ, _+_, _-_, _*_, _≤_}
+use Prim.Native.Nat.{ℕ, _-_, _*_, _≤_}
 use native.Mathlib.Omega.{arith}
 use borrow.Author.Needs.{needs}
 use lib.ListN.{length, take, drop}
@@ -10,10 +10,6 @@ use Rattle.olr.specs.File.{wordBytes}
 use Rattle.olr.proofs.Words.{bytes-start, bytes-put, bytes-all}
 use Rattle.olr.proofs.put.put_block.Statement.{statement}
 use Rattle.olr.proofs.put.put_block.Tie as tie
-use Rattle.olr.proofs.put.put_block.Reads as reads
-use Rattle.olr.proofs.put.put_block.Lts as lts
-use Rattle.block.proofs.close.Reads as close-reads
-use Rattle.block.proofs.put4.Reads as put4-reads
 
 abbrev Inv-loop : tie.InvT-loop
 Inv-loop s₀ number words j₀ s j = (j ≤ length words) × (s ≡ wordBytes (take j words) ++ drop (4 * j) s₀) × (length s ≡ 512)
@@ -46,8 +42,7 @@ loop-again : tie.Need-loop-again Inv-loop μ-loop
 loop-again c =
     let l = c .before .before .before .before .before .before in
     let s = c .before .before .before .before .before .before .before .before .before in
-    let p = c .before .before in
-    (
+    let p = c .before .before in (
       omega arith,
       bytes-put (s .args .words .now) (s .args .s .now) (l .loop .s) (p .put4 .last .0) (l .loop .j) (omega arith) (l .loop .inv .1) (p .put4 .ensures),
       p .put4 .kept .0 ∙ l .loop .inv .2,

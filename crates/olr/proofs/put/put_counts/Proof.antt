@@ -4,9 +4,6 @@ use Rattle.olr.proofs.Head.{counts-put}
 use borrow.Author.Needs.{needs}
 use Rattle.olr.proofs.put.put_counts.Statement.{statement}
 use Rattle.olr.proofs.put.put_counts.Tie as tie
-use Rattle.olr.proofs.put.put_counts.Reads as reads
-use Rattle.olr.proofs.put.put_counts.Lts as lts
-use Rattle.block.proofs.put4.Reads as put4-reads
 
 mul-put4 : tie.Need-mul-put4
 mul-put4 c = search needs

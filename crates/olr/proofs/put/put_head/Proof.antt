@@ -3,12 +3,6 @@ use Rattle.olr.proofs.Head.{head-put}
 use borrow.Author.Needs.{needs}
 use Rattle.olr.proofs.put.put_head.Statement.{statement}
 use Rattle.olr.proofs.put.put_head.Tie as tie
-use Rattle.olr.proofs.put.put_head.Reads as reads
-use Rattle.olr.proofs.put.put_head.Lts as lts
-use Rattle.block.proofs.close.Reads as close-reads
-use Rattle.olr.proofs.put.put_counts.Reads as put-counts-reads
-use Rattle.olr.proofs.put.put_levels.Reads as put-levels-reads
-use Rattle.olr.proofs.put.put_sides.Reads as put-sides-reads
 
 cast-put-sides : tie.Need-cast-put-sides
 cast-put-sides c = search needs

@@ -8,8 +8,6 @@ use lib.ListN.{length, take, drop, set, getD, length-set}
 use lib.Seq.{paste, paste-zero, paste-suc, take-length}
 use Rattle.olr.proofs.put.put_levels.Statement.{statement}
 use Rattle.olr.proofs.put.put_levels.Tie as tie
-use Rattle.olr.proofs.put.put_levels.Reads as reads
-use Rattle.olr.proofs.put.put_levels.Lts as lts
 
 abbrev Inv-loop : tie.InvT-loop
 Inv-loop s₀ levels i₀ s i = (i ≤ length levels) × (s ≡ paste s₀ 16 levels i) × (length s ≡ length s₀)
@@ -40,12 +38,11 @@ loop-again c =
     let l = c .before .before in
     let s = c .before .before .before in
     let f = s .args .s .now in
-    let k = s .args .levels .now in
-    (
+    let k = s .args .levels .now in (
       omega arith,
       ap (λ (z : List ℕ). set z (16 + l .loop .i) (getD k (l .loop .i) 0)) (l .loop .inv .1)
-      ∙ paste-suc f 16 k (l .loop .i) 0 (omega arith) (omega arith)
-      ∙ ap (paste f 16 k) (sym (add-one (l .loop .i))),
+          ∙ paste-suc f 16 k (l .loop .i) 0 (omega arith) (omega arith)
+          ∙ ap (paste f 16 k) (sym (add-one (l .loop .i))),
       simp length-set (l .loop .inv .2),
     )
 

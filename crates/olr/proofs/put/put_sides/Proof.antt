@@ -3,10 +3,6 @@ use Rattle.olr.proofs.Head.{sides-put}
 use borrow.Author.Needs.{needs}
 use Rattle.olr.proofs.put.put_sides.Statement.{statement}
 use Rattle.olr.proofs.put.put_sides.Tie as tie
-use Rattle.olr.proofs.put.put_sides.Reads as reads
-use Rattle.olr.proofs.put.put_sides.Lts as lts
-use Rattle.block.proofs.put2.Reads as put2-reads
-use Rattle.block.proofs.put4.Reads as put4-reads
 
 put4-requires : tie.Need-put4-requires
 put4-requires c κs = search needs

@@ -1,20 +1,14 @@
 -- `olr::put::put_words` meets its contract: the blocks so far, then what was there. Assumes nothing.
-use mathlib.Core.Path.{_≡_, refl, sym, ap, _∙_}
-use mathlib.Core.List.{List, _++_}
+use mathlib.Core.Path.{_≡_, refl, ap, _∙_}
+use mathlib.Core.List.{_++_}
 use Prim.Native.Nat.{ℕ, _+_, _-_, _*_, _≤_}
 use native.Mathlib.Omega.{arith}
-use borrow.Author.Needs.{needs}
 use lib.ListN.{length, take, drop, length-take, length-drop}
 use borrow.Rule.Slice.PartMut.{same-len-mid}
 use Rattle.olr.specs.File.{blocksFor, wordBlocks}
 use Rattle.olr.proofs.Blocks.{blocks-start, blocks-put}
 use Rattle.olr.proofs.put.put_words.Statement.{statement}
 use Rattle.olr.proofs.put.put_words.Tie as tie
-use Rattle.olr.proofs.put.put_words.Reads as reads
-use Rattle.olr.proofs.put.put_words.Lts as lts
-use Rattle.olr.proofs.put.block_end.Reads as block-end-reads
-use Rattle.olr.proofs.put.blocks_for.Reads as blocks-for-reads
-use Rattle.olr.proofs.put.put_block.Reads as put-block-reads
 
 abbrev Inv-loop : tie.InvT-loop
 Inv-loop file₀ words n m i₀ file i =
@@ -71,8 +65,7 @@ part-put-block-end-2 c = omega arith
 put-block-requires : tie.Need-put-block-requires Inv-loop μ-loop
 put-block-requires c κs =
     let l = c .before .before .before .before in
-    let a = c .before .before .before .before .before .before .before .before .args in
-    (
+    let a = c .before .before .before .before .before .before .before .before .args in (
       omega (arith, length-take (512 + 512 * l .loop .i + 512 - (512 + 512 * l .loop .i)) (drop (512 + 512 * l .loop .i) (l .loop .file)), length-drop (512 + 512 * l .loop .i) (l .loop .file)),
       omega (arith, length-take (c .before .before .block-end .result - 127 * l .loop .i) (drop (127 * l .loop .i) (a .words .now))),
     )
@@ -87,15 +80,14 @@ loop-again : tie.Need-loop-again Inv-loop μ-loop
 loop-again c =
     let l = c .before .before .before .before .before .before .before in
     let a = c .before .before .before .before .before .before .before .before .before .before .before .args in
-    let i = l .loop .i in
-    (
+    let i = l .loop .i in (
       omega arith,
       blocks-put (a .file .now) (a .words .now) (l .loop .file) (c .before .before .put-block .last .0) i (512 + 512 * i + 512 - (512 + 512 * i)) (c .before .before .before .before .before .block-end .result)
-      (omega arith)
-      (c .before .before .before .before .before .block-end .ensures)
-      (omega arith)
-      (l .loop .inv .1)
-      (c .before .before .put-block .ensures),
+          (omega arith)
+          (c .before .before .before .before .before .block-end .ensures)
+          (omega arith)
+          (l .loop .inv .1)
+          (c .before .before .put-block .ensures),
       same-len-mid (512 + 512 * i) (512 + 512 * i + 512 - (512 + 512 * i)) (l .loop .file) (c .before .before .put-block .last .0) (c .before .before .put-block .kept .0) ∙ l .loop .inv .2,
     )
 

@@ -1,15 +1,14 @@
 -- What framing gives. Assumes nothing.
 -- Main laws: `framed-long` as many samples as the picture has; `framed-at` a sample of the framed picture; `framed-fits` its border is all one value; `framed-4` so refusal 4 is never given for it.
-use mathlib.Core.Path.{_≡_, refl, sym, ap, _∙_}
+use mathlib.Core.Path.{_≡_, sym, ap, _∙_}
 use mathlib.Core.Bool.{Bool, true, false, not, _||_, cond}
 use mathlib.Core.List.{List}
-use Prim.Native.Nat.{ℕ, _+_, _*_, _≤_, _<_}
+use Prim.Native.Nat.{ℕ, _*_, _≤_, _<_}
 use native.Mathlib.Nat.{zero-add}
 use native.Mathlib.Omega.{arith}
 use lib.Dec.{eqb}
 use lib.ListN.{length, getD}
 use borrow.Author.Tests.{eq-eqb}
-use Rattle.tally.specs.Tally.{every, build}
 use Rattle.tally.proofs.Test.{by-test}
 use Rattle.tally.proofs.Every.{every-from}
 use Rattle.tally.proofs.Build.{build-length, build-at}

@@ -3,7 +3,7 @@
 -- Main laws: `begin`, `go`, `stop`, `end` the search for the half; `room-le` a sum of counts is within bounds; `at-most` the counts up to a value say how many do not exceed it; `half-is` the half of the
 --   counts is the median; `counts-sum` all counts together are at most the length.
 use mathlib.Core.Path.{_≡_, refl, sym, ap, _∙_}
-use mathlib.Core.Bool.{Bool, true, false}
+use mathlib.Core.Bool.{Bool, false}
 use mathlib.Core.List.{List, [], _∷_}
 use Prim.Native.Nat.{ℕ, zero, suc, _+_, _-_, _*_, _≤_, _<_}
 use native.Mathlib.Omega.{arith}

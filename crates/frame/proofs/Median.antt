@@ -2,17 +2,17 @@
 -- Definitions: `Within` all of a list are at most the largest sample.
 -- Main laws: `median-half` at least half do not exceed it; `median-least` of no smaller value is that so; `median-one` it is one of the list; `median-sorted` it is the element in the middle of the sorted
 --   list, `median-even` for an even number the smaller of the middle two; `border-within`, `border-median` the same for the border's samples.
-use mathlib.Core.Path.{_≡_, refl, sym, ap, _∙_}
-use mathlib.Core.Bool.{Bool, true, false}
-use mathlib.Core.List.{List, [], _∷_, _++_}
+use mathlib.Core.Path.{_≡_, sym, _∙_}
+use mathlib.Core.Bool.{Bool}
+use mathlib.Core.List.{List, [], _∷_}
 use Prim.Native.Nat.{ℕ, zero, suc, _+_, _-_, _*_, _≤_, _<_}
 use native.Mathlib.Omega.{arith}
-use lib.Dec.{eqb, ltb, leb}
+use lib.Dec.{ltb, leb}
 use lib.ListN.{length, getD, length-append}
-use borrow.Author.Tests.{eqb-true, eqb-false, ltb-true, ltb-false, leb-true, leb-false, le-leb, lt-leb}
-use Rattle.tally.specs.Tally.{one, sum, count, tally, firstFrom}
+use borrow.Author.Tests.{ltb-true, ltb-false, leb-true, leb-false, le-leb, lt-leb}
+use Rattle.tally.specs.Tally.{sum, count, tally}
 use Rattle.tally.proofs.Test.{by-test}
-use Rattle.tally.proofs.Count.{tally-append, tally-length}
+use Rattle.tally.proofs.Count.{tally-append}
 use Rattle.tally.proofs.First.{from-is, from-le, from-passes, from-before}
 use Rattle.matte.specs.Layout.{Layout}
 use Rattle.matte.specs.Picture.{Picture, picture, at, onBorder}

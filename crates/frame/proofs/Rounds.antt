@@ -1,14 +1,14 @@
 -- The border counted in runs: the first row with the start of the next, the end of a row with the start of the next, the rest of the last row. Assumes nothing.
 -- Definitions: `Counting` what has been counted after row y's first sample.
 -- Main laws: `rows-le` where a row ends; `first-on`, `ends-on`, `last-on` the runs lie on the border; `begin`, `skip`, `go`, `end` the counts before, between and after the runs.
-use mathlib.Core.Path.{_≡_, refl, sym, ap, _∙_}
+use mathlib.Core.Path.{_≡_, sym, ap, _∙_}
 use mathlib.Core.Bool.{true}
 use mathlib.Core.List.{List}
-use Prim.Native.Nat.{ℕ, zero, suc, _+_, _-_, _*_, _≤_, _<_}
+use Prim.Native.Nat.{ℕ, zero, _+_, _-_, _*_, _≤_, _<_}
 use native.Mathlib.Nat.{mul-le-mul-right}
 use native.Mathlib.Omega.{arith}
 use lib.Dec.{eqb, ltb}
-use lib.ListN.{length, replicate}
+use lib.ListN.{replicate}
 use borrow.Author.Tests.{eqb-true, eqb-false, ltb-true, ltb-false}
 use Rattle.tally.proofs.Test.{by-test}
 use Rattle.matte.specs.Layout.{eight}

@@ -2,7 +2,7 @@
 -- Main laws: `seen-none`; `seen-on` a border place adds its sample; `seen-off` other places add nothing; `seen-long` there are at most as many as places; `count-at` an entry of the counts;
 --   `counts-more` one sample more; `seen-more` the two together; `entry-le` no entry is above the number of places.
 use mathlib.Core.Path.{_≡_, refl, sym, ap, _∙_}
-use mathlib.Core.Bool.{Bool, true, false}
+use mathlib.Core.Bool.{true, false}
 use mathlib.Core.List.{List, [], _∷_, _++_}
 use Prim.Native.Nat.{ℕ, zero, suc, _+_, _≤_, _<_}
 use native.Mathlib.Nat.{zero-add, add-zero, add-suc}
@@ -12,12 +12,12 @@ use lib.Dec.{eqb}
 use lib.ListN.{length, getD, set, replicate, length-append, length-set, length-replicate, getD-replicate}
 use lib.Seq.{ext-getD, getD-set-same, getD-set-other}
 use borrow.Author.Tests.{eqb-true, eqb-false, eq-eqb}
-use Rattle.tally.specs.Tally.{one, count, build, flat, pick}
+use Rattle.tally.specs.Tally.{one, count, flat, pick}
 use Rattle.tally.proofs.Test.{by-test, one-le}
 use Rattle.tally.proofs.Count.{count-append}
 use Rattle.tally.proofs.Pick.{pick-more, pick-still}
 use Rattle.tally.proofs.Build.{build-length, build-at, is-build}
-use Rattle.matte.specs.Layout.{Layout, eight}
+use Rattle.matte.specs.Layout.{eight}
 use Rattle.matte.specs.Picture.{Picture, at, onBorder}
 use Rattle.frame.specs.Counts.{seen, histogram}
 

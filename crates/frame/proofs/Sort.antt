@@ -1,7 +1,7 @@
 -- Insertion sort, to say which element of the sorted list the median is. Assumes nothing.
 -- Definitions: `insert` a number into a list; `sort` a list sorted; `From a l` l ascends from a on.
 -- Main laws: `sort-from` a sorted list ascends; `sort-tally`, `sort-long` it has the elements of the list; `enough` up to its element k are k + 1; `few` below that value are at most k.
-use mathlib.Core.Path.{_≡_, refl, sym, ap, _∙_}
+use mathlib.Core.Path.{_≡_, refl, ap, _∙_}
 use mathlib.Core.Bool.{Bool, true, false, cond}
 use mathlib.Core.List.{List, [], _∷_}
 use Prim.Native.Nat.{ℕ, zero, suc, _+_, _≤_, _<_}

@@ -1,6 +1,6 @@
 -- Adding 1 to a run of samples. Assumes nothing.
 -- Definitions: `Added` a list with 1 added from one place up to another.
--- Main laws: `added-none`, `added-more` one place more; `added-is` where a place is in the run.
+-- Main laws: `run-in`, `run-before`, `run-after` where a place lies; `added-none`, `added-more` one place more; `added-at` the next place is as it was.
 use mathlib.Core.Path.{_≡_, refl, sym, ap, _∙_}
 use mathlib.Core.Bool.{Bool, true, false, _&&_}
 use mathlib.Core.List.{List}
@@ -10,7 +10,7 @@ use native.Mathlib.Omega.{arith}
 use lib.Dec.{eqb, ltb, leb}
 use lib.ListN.{length, getD, set, length-set}
 use lib.Seq.{getD-set-same, getD-set-other}
-use borrow.Author.Tests.{eqb-true, eqb-false, lt-ltb, le-ltb, le-leb, lt-leb, ltb-true, ltb-false, leb-true, leb-false}
+use borrow.Author.Tests.{eqb-true, eqb-false, lt-ltb, le-ltb, le-leb, lt-leb, ltb-true, ltb-false}
 use Rattle.tally.specs.Tally.{one}
 use Rattle.tally.proofs.Test.{by-test}
 use Rattle.layer.specs.Layer.{inRun}

@@ -1,18 +1,18 @@
 -- Running along a row from mark to mark. Assumes nothing.
 -- Definitions: `Along` what holds at the start of a run.
--- Main laws: `stop-mark`, `stop-end` the first mark is where the run stops; `running-flat` no mark, the same state; `row-begin`, `row-go`, `row-end` the row, run by run.
+-- Main laws: `stop-mark`, `stop-end` the first mark is where the run stops; `running-flat` no mark, the same state; `row-begin`, `row-go` the row, run by run.
 use mathlib.Core.Path.{_≡_, refl, sym, ap, _∙_}
 use mathlib.Core.Bool.{Bool, true, false, not, _&&_}
 use mathlib.Core.List.{List}
 use Prim.Native.Nat.{ℕ, zero, suc, _+_, _-_, _≤_, _<_}
 use native.Mathlib.Nat.{add-zero}
 use native.Mathlib.Omega.{arith}
-use lib.Dec.{ltb, leb}
+use lib.Dec.{ltb}
 use lib.ListN.{length, getD}
 use borrow.Author.Tests.{ltb-true, ltb-false}
 use Rattle.tally.specs.Tally.{one, differ, firstFrom}
 use Rattle.tally.proofs.Test.{by-test}
-use Rattle.tally.proofs.First.{from-ge, from-le, from-before, from-passes}
+use Rattle.tally.proofs.First.{from-ge, from-before, from-passes}
 use Rattle.layer.specs.Layer.{running, inRun, Stop, Rowed}
 use Rattle.layer.proofs.Turns.{differ-none}
 use Rattle.layer.proofs.Adds.{run-in, run-before, run-after}

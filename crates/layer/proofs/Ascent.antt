@@ -1,7 +1,7 @@
 -- A level list that ascends. Assumes nothing.
 -- Main laws: `ascend-at` its elements are at least as far up as their index, and below the largest sample; `ascend-up` a later one is larger; `ascend-few` so there are no more than the largest sample.
-use mathlib.Core.Path.{_≡_, refl, sym, ap, _∙_}
-use mathlib.Core.Bool.{Bool, true, false, _&&_}
+use mathlib.Core.Path.{_≡_}
+use mathlib.Core.Bool.{true, _&&_}
 use mathlib.Core.List.{List, [], _∷_}
 use Prim.Native.Nat.{ℕ, zero, suc, _+_, _-_, _≤_, _<_}
 use native.Mathlib.Omega.{arith}

@@ -2,14 +2,13 @@
 -- Definitions: `Risen` what holds of the words passed; `Behind` the words before a are below every level to come.
 -- Main laws: `risen-none`, `risen-more`, `risen-end` the levels do not fall; `part-all` words of other levels turn nothing; `looked-at` so a group is enough; `behind-none`, `behind-more` the next group.
 use mathlib.Core.Path.{_≡_, refl, sym, ap, _∙_}
-use mathlib.Core.Bool.{Bool, true, false, _&&_}
+use mathlib.Core.Bool.{Bool, true, false}
 use mathlib.Core.List.{List, [], _∷_, _++_}
-use Prim.Native.Nat.{ℕ, zero, suc, _+_, _-_, _≤_, _<_}
-use native.Mathlib.Nat.{zero-add}
+use Prim.Native.Nat.{ℕ, suc, _+_, _-_, _≤_, _<_}
 use native.Mathlib.Omega.{arith}
 use lib.Dec.{eqb, ltb}
 use lib.ListN.{length, getD, take, drop, take-append-drop, length-take, length-drop}
-use lib.Seq.{getD-take, getD-drop, drop-drop}
+use lib.Seq.{getD-take, getD-drop}
 use borrow.Author.Tests.{eqb-true, eqb-false, ne-eqb, ltb-true, ltb-false}
 use Rattle.tally.specs.Tally.{one, odd, tally}
 use Rattle.tally.proofs.Test.{by-test, no}

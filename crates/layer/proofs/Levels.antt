@@ -12,7 +12,7 @@ use lib.Dec.{ltb}
 use lib.ListN.{length, getD, take}
 use Rattle.tally.specs.Tally.{one, differ, tally}
 use Rattle.fill.specs.Filled.{Filled}
-use Rattle.matte.specs.Layout.{Layout, eight}
+use Rattle.matte.specs.Layout.{eight}
 use Rattle.matte.specs.Picture.{levelsFit}
 use Rattle.layer.specs.Layer.{turnedAt, running, Layered, stacked}
 use Rattle.layer.proofs.Takes.{take-none, take-more, take-le, take-end}

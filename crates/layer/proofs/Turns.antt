@@ -1,7 +1,7 @@
 -- The edgels that the words of a level turn. Assumes nothing.
 -- Main laws: `hit-other`, `hit-vertical`, `hit-place` what one word turns; `turned-none`, `turned-more`, `turned-end` what a list turns, word by word.
 use mathlib.Core.Path.{_≡_, refl, sym, ap, _∙_}
-use mathlib.Core.Bool.{Bool, true, false, _&&_}
+use mathlib.Core.Bool.{Bool, true, false}
 use mathlib.Core.List.{List}
 use Prim.Native.Nat.{ℕ, _+_, _/_, _%_, _<_}
 use lib.Dec.{eqb}

@@ -1,6 +1,5 @@
 -- Words that come grouped by level, as a list writes them. Assumes nothing.
 -- Definitions: `Rising` the words' levels do not fall; `Upto` how far the words of a level and below go; `nextStart` where the words of the next level start.
-use mathlib.Core.Path.{_≡_}
 use mathlib.Core.Bool.{Bool, cond}
 use mathlib.Core.List.{List}
 use Prim.Native.Nat.{ℕ, _≤_, _<_}

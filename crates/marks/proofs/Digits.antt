@@ -2,14 +2,14 @@
 -- Main laws: `digit-zero` 0 has none; `digit-shift` a digit of a shifted number; `digit-past` a number below 2^k has none from k on; `digit-power` a power of two has one; `digit-xor` of a number one digit of
 --   which was turned over; `low-zero`, `low-one` the digits up to the lowest that is set.
 use mathlib.Core.Path.{_≡_, refl, sym, ap, _∙_}
-use mathlib.Core.Bool.{Bool, true, false}
+use mathlib.Core.Bool.{true, false}
 use Prim.Native.Nat.{ℕ, zero, suc, _+_, _-_, _*_, _/_, _%_, _^_, _≤_, _<_}
-use native.Mathlib.Nat.{zero-div, div-eq-of-lt, div-one, pow-zero, pow-suc, mod-lt, add-comm, zero-add}
+use native.Mathlib.Nat.{div-eq-of-lt, div-one, pow-suc, zero-add}
 use native.Mathlib.Omega.{arith}
 use lib.Dec.{eqb, ltb}
-use lib.Pow.{pow-mono, pow-lt, pow-add, pow-pos, shr-shr, shl-shr, shr-lt}
+use lib.Pow.{pow-mono, pow-lt, pow-add, pow-pos, shr-shr, shl-shr}
 use lib.Bits.{bitXor, xor-shr, xor-mod}
-use lib.Count.{trailingZeros, under}
+use lib.Count.{trailingZeros}
 use borrow.Author.Tests.{eqb-true, eqb-false, eq-eqb, ne-eqb, ltb-true, ltb-false}
 use Rattle.tally.specs.Tally.{odd, differ}
 use Rattle.tally.proofs.Test.{by-test}

@@ -1,7 +1,7 @@
 -- All lines of a word list. Assumes nothing.
 -- Main laws: `part-empty` a line past the last is empty; `part-some` any other is not; `part-exact` the two together; `parts-all` the lines one after the other are the list from its first flag on.
 use mathlib.Core.Path.{_≡_, refl, sym, ap, _∙_}
-use mathlib.Core.Bool.{Bool, true, false}
+use mathlib.Core.Bool.{true, false}
 use mathlib.Core.List.{List, [], _∷_, _++_}
 use Prim.Native.Nat.{ℕ, zero, suc, _+_, _≤_, _<_}
 use native.Mathlib.Nat.{zero-add}
@@ -9,11 +9,10 @@ use native.Mathlib.Numerals.{one-add}
 use native.Mathlib.Omega.{arith}
 use lib.Dec.{ltb}
 use lib.ListN.{length, take, drop, take-append-drop}
-use borrow.Author.Tests.{lt-ltb, le-ltb, ltb-true, ltb-false}
+use borrow.Author.Tests.{lt-ltb, ltb-true, ltb-false}
 use Rattle.tally.specs.Tally.{tally, firstAt, flat, pick}
 use Rattle.tally.proofs.Test.{by-test}
 use Rattle.tally.proofs.First.{first-yes, first-no}
-use Rattle.tally.proofs.Pick.{pick-yes}
 use Rattle.matte.specs.Layout.{Layout}
 use Rattle.edgel.specs.Word.{flagged}
 use Rattle.paint.specs.Part.{rest, part}

@@ -9,7 +9,7 @@ use native.Mathlib.Nat.{add-zero, mod-lt}
 use native.Mathlib.Omega.{arith}
 use lib.Dec.{eqb, ltb, leb}
 use lib.ListN.{length, drop}
-use borrow.Author.Tests.{eqb-true, eqb-false, eq-eqb, lt-ltb, le-ltb, le-leb, ltb-true, ltb-false, leb-true}
+use borrow.Author.Tests.{eqb-true, eqb-false, lt-ltb, le-ltb, le-leb, ltb-true, ltb-false, leb-true}
 use Rattle.tally.specs.Tally.{one, odd, differ, tally}
 use Rattle.tally.proofs.Test.{by-test, differ-assoc}
 use Rattle.tally.proofs.Parity.{odd-plus}
@@ -18,7 +18,6 @@ use Rattle.fill.proofs.Fills.{filled-list}
 use Rattle.matte.specs.Layout.{Layout}
 use Rattle.edgel.specs.Edgel.{horizontal}
 use Rattle.edgel.specs.Word.{codeOf, levelOf}
-use Rattle.edgel.specs.Beside.{westOf}
 use Rattle.paint.specs.Paint.{turns, painted, painting}
 use Rattle.paint.specs.Span.{inSpan}
 use Rattle.layer.specs.Layer.{hits, turnedAt, running, stacked}

@@ -1,8 +1,8 @@
 -- The words left of a sample on its row, by their places. Assumes nothing.
 -- Main laws: `span-west` the places from a row's start on are those of the row's columns; `span-vertical`, `span-before`, `span-in`, `span-after` one code;
 --   `west-none`, `west-le`, `west-more`, `west-end` the words of a list counted.
-use mathlib.Core.Path.{_≡_, refl, sym, ap, _∙_}
-use mathlib.Core.Bool.{Bool, true, false, _&&_}
+use mathlib.Core.Path.{_≡_, ap, _∙_}
+use mathlib.Core.Bool.{Bool, _&&_}
 use mathlib.Core.List.{List}
 use Prim.Native.Nat.{ℕ, _+_, _-_, _*_, _/_, _%_, _≤_, _<_}
 use native.Mathlib.Nat.{div-add-mod'}

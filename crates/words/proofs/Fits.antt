@@ -1,8 +1,8 @@
 -- The test of a code, by its three cases. Assumes nothing.
 -- Main laws: `across-fits`, `across-last` a horizontal code before and in the last column; `down-fits` a vertical one; `code-told` what the test of a word's code
 --   says of the word; `word-code`, `word-level` the two parts of the test of a word.
-use mathlib.Core.Path.{_≡_, refl, sym, ap, _∙_}
-use mathlib.Core.Bool.{Bool, true, false, not, _&&_, _||_, cond}
+use mathlib.Core.Path.{_≡_, sym, ap, _∙_}
+use mathlib.Core.Bool.{Bool, true, false, not, _||_}
 use mathlib.Core.List.{List}
 use Prim.Native.Nat.{ℕ, _+_, _*_, _/_, _%_, _<_, _≤_}
 use lib.Dec.{eqb, ltb}

@@ -4,18 +4,18 @@
 use mathlib.Core.Path.{_≡_, refl, sym, ap, _∙_}
 use mathlib.Core.Bool.{Bool, true, false, not, _||_}
 use mathlib.Core.List.{List, [], _∷_, _++_}
-use Prim.Native.Nat.{ℕ, zero, suc, _+_, _/_, _%_, _<_}
+use Prim.Native.Nat.{ℕ, zero, suc, _+_, _/_, _<_}
 use native.Mathlib.Nat.{zero-add, mod-lt}
 use native.Mathlib.Omega.{arith}
 use lib.Dec.{eqb, ltb}
 use lib.ListN.{length, getD, set, replicate, length-set, length-replicate, getD-replicate}
 use lib.Seq.{ext-getD, getD-set-same, getD-set-other}
-use borrow.Author.Tests.{eqb-true, eqb-false, lt-ltb, le-ltb, eq-eqb, ne-eqb, ltb-true, ltb-false}
-use Rattle.tally.specs.Tally.{one, count, build}
+use borrow.Author.Tests.{eqb-true, eqb-false, lt-ltb, eq-eqb, ne-eqb}
+use Rattle.tally.specs.Tally.{one, count}
 use Rattle.tally.proofs.Test.{by-test}
 use Rattle.tally.proofs.Count.{count-append}
 use Rattle.tally.proofs.Build.{build-length, build-at, is-build}
-use Rattle.matte.specs.Layout.{Layout, eight}
+use Rattle.matte.specs.Layout.{eight}
 use Rattle.edgel.specs.Word.{levelOf, badCode, badWord}
 use Rattle.words.specs.Listed.{levelTable, wordFits}
 

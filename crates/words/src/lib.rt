@@ -3,7 +3,6 @@ use edgel::code_of;
 use edgel::level_of;
 use refuse::area;
 ghost use mathlib.Core.Path.{_≡_};
-ghost use lib.ListN.{length};
 ghost use Rattle.tally.specs.Tally.{firstAt};
 ghost use Rattle.matte.specs.Layout.{eight};
 ghost use Rattle.edgel.specs.Edgel.{edgel};

@@ -1,9 +1,8 @@
 -- `frame::border_counts` meets its contract, run by run. Assumes nothing.
-use mathlib.Core.Path.{_≡_, refl, sym, ap, _∙_}
-use Prim.Native.Nat.{ℕ, _+_, _*_, _≤_, _<_, _-_}
+use mathlib.Core.Path.{_≡_, refl, sym, ap}
+use Prim.Native.Nat.{ℕ, _+_, _*_, _≤_, _-_}
 use native.Mathlib.Omega.{arith}
 use borrow.Author.Needs.{needs}
-use lib.ListN.{length}
 use Rattle.frame.proofs.Rounds.{Counting, rows-le, first-on, ends-on, last-on, begin, first, skip, go, end}
 use Rattle.frame.proofs.border_counts.Statement.{statement}
 use Rattle.frame.proofs.border_counts.Tie as tie

@@ -1,13 +1,13 @@
 -- `frame::border_median` meets its contract: the half of the counts is the median. Assumes nothing.
-use mathlib.Core.Path.{_≡_, refl, sym, ap, _∙_}
+use mathlib.Core.Path.{_≡_, sym, ap, _∙_}
 use mathlib.Core.List.{List}
-use Prim.Native.Nat.{ℕ, _+_, _-_, _≤_, _*_}
+use Prim.Native.Nat.{ℕ, _+_, _-_, _*_}
 use native.Mathlib.Omega.{arith}
 use borrow.Author.Needs.{needs}
 use lib.ListN.{length}
 use Rattle.matte.specs.Layout.{eight}
 use Rattle.matte.specs.Picture.{picture}
-use Rattle.frame.specs.Frame.{borderSamples, median}
+use Rattle.frame.specs.Frame.{borderSamples}
 use Rattle.frame.specs.Counts.{histogram, halfway}
 use Rattle.frame.proofs.Many.{border-many}
 use Rattle.frame.proofs.Halves.{half-is, counts-sum}

@@ -1,9 +1,8 @@
 -- `frame::copy_run` meets its contract, one sample a turn. Assumes nothing.
-use mathlib.Core.Path.{_≡_, refl, sym, ap, _∙_}
+use mathlib.Core.Path.{_≡_, refl}
 use mathlib.Core.List.{List}
-use Prim.Native.Nat.{ℕ, _+_, _≤_, _<_, _-_}
+use Prim.Native.Nat.{ℕ, _≤_, _<_, _-_}
 use native.Mathlib.Omega.{arith}
-use borrow.Author.Needs.{needs}
 use lib.ListN.{length, getD, length-set}
 use Rattle.fill.specs.Filled.{Filled}
 use Rattle.fill.proofs.Fills.{filled-more}

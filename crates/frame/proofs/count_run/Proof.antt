@@ -1,9 +1,7 @@
 -- `frame::count_run` meets its contract: the counts are those of the border samples passed. Assumes nothing.
-use mathlib.Core.Path.{_≡_, refl, sym, ap, _∙_}
-use Prim.Native.Nat.{ℕ, _≤_, _<_, _-_}
+use mathlib.Core.Path.{_≡_, ap, _∙_}
+use Prim.Native.Nat.{ℕ, _≤_, _-_}
 use native.Mathlib.Omega.{arith}
-use borrow.Author.Needs.{needs}
-use lib.ListN.{length, getD}
 use Rattle.matte.specs.Layout.{eight}
 use Rattle.matte.specs.Picture.{picture}
 use Rattle.frame.specs.Counts.{seen, histogram}

@@ -1,9 +1,6 @@
 -- `frame::middle` meets its contract: half was not reached at any value passed. Assumes nothing.
-use mathlib.Core.Path.{_≡_, refl, sym, ap, _∙_}
-use Prim.Native.Nat.{ℕ, _+_, _≤_, _<_, _-_}
+use Prim.Native.Nat.{_-_}
 use native.Mathlib.Omega.{arith}
-use borrow.Author.Needs.{needs}
-use lib.ListN.{length, getD}
 use Rattle.frame.proofs.Halves.{Below, begin, room-le, go, stop, end}
 use Rattle.frame.proofs.middle.Statement.{statement}
 use Rattle.frame.proofs.middle.Tie as tie

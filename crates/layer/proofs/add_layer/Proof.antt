@@ -1,9 +1,8 @@
 -- `layer::add_layer` meets its contract, row by row. Assumes nothing.
-use mathlib.Core.Path.{_≡_, refl, sym, ap, _∙_}
-use Prim.Native.Nat.{ℕ, _+_, _-_, _*_, _≤_, _<_}
+use mathlib.Core.Path.{_≡_, ap}
+use Prim.Native.Nat.{ℕ, _-_, _*_, _≤_}
 use native.Mathlib.Omega.{arith}
-use borrow.Author.Needs.{needs}
-use lib.ListN.{length, getD}
+use lib.ListN.{getD}
 use Rattle.marks.specs.Marks.{bitAt}
 use Rattle.layer.specs.Layer.{Layered}
 use Rattle.layer.proofs.Layers.{row-end, area-le, layer-begin, layer-go}

@@ -1,5 +1,4 @@
 -- `layer::add_level` meets its contract: the marks of the level, then a layer. Assumes nothing.
-use mathlib.Core.Path.{_≡_, refl, sym, ap, _∙_}
 use native.Mathlib.Omega.{arith}
 use borrow.Author.Needs.{needs}
 use Rattle.layer.proofs.Levels.{layered-same, marks-turned}

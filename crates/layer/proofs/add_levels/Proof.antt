@@ -1,9 +1,9 @@
 -- `layer::add_levels` meets its contract, level by level. Assumes nothing.
-use mathlib.Core.Path.{_≡_, refl, sym, ap, _∙_}
-use Prim.Native.Nat.{ℕ, zero, _-_, _*_, _≤_, _<_}
+use mathlib.Core.Path.{_≡_, refl}
+use Prim.Native.Nat.{zero, _-_, _*_, _≤_}
 use native.Mathlib.Omega.{arith}
 use borrow.Author.Needs.{needs}
-use lib.ListN.{length, getD, length-replicate}
+use lib.ListN.{length, length-replicate}
 use Rattle.matte.specs.Layout.{eight}
 use Rattle.layer.proofs.Ascent.{ascend-up}
 use Rattle.layer.proofs.Grouping.{Behind, behind-none, behind-more, looked-at}

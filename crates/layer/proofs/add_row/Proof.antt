@@ -1,11 +1,9 @@
 -- `layer::add_row` meets its contract, run by run. Assumes nothing.
-use mathlib.Core.Path.{_≡_, refl, sym, ap, _∙_}
-use Prim.Native.Nat.{ℕ, _-_, _≤_, _<_}
+use mathlib.Core.Path.{_≡_}
+use Prim.Native.Nat.{_-_}
 use native.Mathlib.Omega.{arith}
-use borrow.Author.Needs.{needs}
-use lib.ListN.{length, getD}
+use lib.ListN.{getD}
 use Rattle.marks.specs.Marks.{bitAt}
-use Rattle.layer.specs.Layer.{Rowed}
 use Rattle.layer.proofs.Along.{Along, row-begin, row-go}
 use Rattle.layer.proofs.add_row.Statement.{statement}
 use Rattle.layer.proofs.add_row.Tie as tie

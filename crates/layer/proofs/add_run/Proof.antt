@@ -1,9 +1,7 @@
 -- `layer::add_run` meets its contract, one sample a turn. Assumes nothing.
-use mathlib.Core.Path.{_≡_, refl, sym, ap, _∙_}
-use Prim.Native.Nat.{ℕ, _+_, _-_, _≤_, _<_}
+use mathlib.Core.Path.{_≡_}
+use Prim.Native.Nat.{_-_, _≤_}
 use native.Mathlib.Omega.{arith}
-use borrow.Author.Needs.{needs}
-use lib.ListN.{length, getD}
 use Rattle.layer.proofs.Adds.{Added, added-none, added-at, added-more}
 use Rattle.layer.proofs.add_run.Statement.{statement}
 use Rattle.layer.proofs.add_run.Tie as tie

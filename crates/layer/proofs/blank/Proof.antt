@@ -1,9 +1,7 @@
 -- `layer::blank` meets its contract, one sample a turn. Assumes nothing.
 use mathlib.Core.Path.{_≡_, refl}
-use Prim.Native.Nat.{ℕ, _-_, _≤_}
+use Prim.Native.Nat.{_-_, _≤_}
 use native.Mathlib.Omega.{arith}
-use borrow.Author.Needs.{needs}
-use lib.ListN.{length}
 use Rattle.fill.specs.Filled.{Filled}
 use Rattle.fill.proofs.Fills.{filled-none, filled-more}
 use Rattle.layer.proofs.blank.Statement.{statement}

@@ -1,8 +1,7 @@
 -- `layer::mark_word` meets its contract: another level, a vertical word, or a turned mark. Assumes nothing.
-use mathlib.Core.Path.{_≡_, refl, sym, ap, _∙_}
+use mathlib.Core.Path.{sym, ap, _∙_}
 use mathlib.Core.Bool.{Bool}
 use Prim.Native.Nat.{ℕ}
-use native.Mathlib.Omega.{arith}
 use borrow.Author.Needs.{needs}
 use Rattle.tally.specs.Tally.{differ}
 use Rattle.marks.specs.Marks.{bitAt}

@@ -1,13 +1,7 @@
 -- `marks::next_mark` meets its contract: no place passed is marked. Assumes nothing.
-use mathlib.Core.Path.{_≡_, refl, sym, ap, _∙_}
-use mathlib.Core.Bool.{false}
-use mathlib.Core.List.{List}
-use Prim.Native.Nat.{ℕ, _+_, _-_, _*_, _/_, _%_, _^_, _≤_, _<_}
+use Prim.Native.Nat.{_-_, _/_, _%_, _^_}
 use native.Mathlib.Omega.{arith}
-use borrow.Author.Needs.{needs}
-use lib.Count.{trailingZeros, trailing-le}
-use lib.ListN.{length, getD, length-set}
-use Rattle.marks.specs.Marks.{bitAt}
+use lib.Count.{trailing-le}
 use Rattle.marks.proofs.Places.{Seeking, seek-begin, seek-go, seek-end, seek-stop, seek-late}
 use Rattle.marks.proofs.next_mark.Statement.{statement}
 use Rattle.marks.proofs.next_mark.Tie as tie

@@ -8,7 +8,6 @@ use borrow.Author.Needs.{needs}
 use borrow.Author.Tests.{lt-ltb, le-ltb, not-true, not-false}
 use lib.Dec.{ltb}
 use lib.ListN.{length}
-use Rattle.matte.specs.declared.Verdict.{Verdict}
 use Rattle.matte.specs.Layout.{eight}
 use Rattle.matte.specs.Picture.{sideFits}
 use Rattle.matte.specs.Refusal.{row}

@@ -1,14 +1,12 @@
 -- `paint::run_of` meets its contract: the words passed have no flag. Assumes nothing.
-use mathlib.Core.Logic.{⊎-elim}
 use mathlib.Core.Path.{_≡_, refl, sym, ap, _∙_}
-use mathlib.Core.List.{List, [], _++_, append-nil}
+use mathlib.Core.List.{List, _++_, append-nil}
 use Prim.Native.Nat.{ℕ, _+_, _-_, _≤_, _<_}
 use native.Mathlib.Omega.{arith}
 use borrow.Author.Needs.{needs}
 use lib.ListN.{length, take, drop}
-use lib.Seq.{take-length}
 use Rattle.matte.specs.Layout.{eight}
-use Rattle.paint.specs.Part.{rest, part}
+use Rattle.paint.specs.Part.{rest}
 use Rattle.paint.proofs.Lines.{rest-stop, rest-end, run-more}
 use Rattle.paint.proofs.run_of.Statement.{statement}
 use Rattle.paint.proofs.run_of.Tie as tie

@@ -1,5 +1,5 @@
 -- `words::level_table` meets its contract: the table is that of the levels passed. Assumes nothing.
-use mathlib.Core.Path.{_≡_, sym, ap, _∙_}
+use mathlib.Core.Path.{_≡_, ap, _∙_}
 use Prim.Native.Nat.{_≤_, _<_, _-_}
 use native.Mathlib.Omega.{arith}
 use native.Mathlib.Numerals.{add-one}
@@ -8,7 +8,7 @@ use lib.ListN.{length, take}
 use lib.Seq.{take-suc, take-length}
 use Rattle.matte.specs.Layout.{eight}
 use Rattle.words.specs.Listed.{levelTable}
-use Rattle.words.proofs.Table.{table-length, table-none, table-more}
+use Rattle.words.proofs.Table.{table-none, table-more}
 use Rattle.words.proofs.level_table.Statement.{statement}
 use Rattle.words.proofs.level_table.Tie as tie
 

@@ -1,10 +1,9 @@
 -- `layer::groups::grouped` meets its contract: no word passed is above `low`. Assumes nothing.
-use mathlib.Core.Path.{_≡_, refl, sym, ap, _∙_}
-use mathlib.Core.Bool.{true, false}
-use Prim.Native.Nat.{ℕ, _-_, _≤_, _<_}
+use mathlib.Core.Path.{refl}
+use Prim.Native.Nat.{_-_}
 use native.Mathlib.Omega.{arith}
 use borrow.Author.Needs.{needs}
-use lib.ListN.{length, getD}
+use lib.ListN.{length}
 use Rattle.tally.proofs.Test.{no}
 use Rattle.matte.specs.Layout.{eight}
 use Rattle.layer.proofs.Grouping.{Risen, risen-none, risen-more, risen-end}

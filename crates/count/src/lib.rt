@@ -1,4 +1,7 @@
 // How many words the list will have: the crossed edgels of all levels.
+mod stepped;
+
+use stepped::by_steps;
 ghost use mathlib.Core.Path.{_≡_};
 ghost use mathlib.Core.Bool.{Bool, true, false};
 ghost use Prim.Native.Nat.{ℕ, _+_, _*_, _-_, _≤_, _<_};
@@ -58,8 +61,8 @@ fn count_level(px: &[u8], w: usize, h: usize, k: u8) -> usize
     n
 }
 
-// The words of the list.
-pub fn count_words(px: &[u8], w: usize, h: usize, ks: &[u8]) -> usize
+// The words of the list, level by level.
+fn by_levels(px: &[u8], w: usize, h: usize, ks: &[u8]) -> usize
     requires { ⌜ (Ground (picture w h (now px))) × (levelsFit eight (now ks) ≡ true) ⌝ }
     ensures { λ r. ⌜ r ≡ length (listed eight (picture w h (now (px .entry))) (now (ks .entry))) ⌝ }
 {
@@ -70,4 +73,15 @@ pub fn count_words(px: &[u8], w: usize, h: usize, ks: &[u8]) -> usize
         j += 1;
     }
     n
+}
+
+// The words of the list: with few levels level by level, else by steps, which takes the same time for any number of levels.
+pub fn count_words(px: &[u8], w: usize, h: usize, ks: &[u8]) -> usize
+    requires { ⌜ (Ground (picture w h (now px))) × (levelsFit eight (now ks) ≡ true) ⌝ }
+    ensures { λ r. ⌜ r ≡ length (listed eight (picture w h (now (px .entry))) (now (ks .entry))) ⌝ }
+{
+    if ks.len() < 5 {
+        return by_levels(px, w, h, ks);
+    }
+    by_steps(px, w, h, ks)
 }

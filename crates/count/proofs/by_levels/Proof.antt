@@ -1,4 +1,4 @@
--- `count::count_words` meets its contract: the sum over all levels passed. Assumes nothing.
+-- `count::by_levels` meets its contract: the sum over all levels passed. Assumes nothing.
 use mathlib.Core.Path.{_≡_, refl, sym, ap, _∙_}
 use Prim.Native.Nat.{ℕ, _+_, _-_, _*_, _≤_, _<_}
 use native.Mathlib.Omega.{arith}
@@ -8,8 +8,8 @@ use Rattle.matte.specs.Layout.{eight}
 use Rattle.matte.specs.Picture.{picture}
 use Rattle.count.specs.Count.{crossings}
 use Rattle.count.proofs.Counting.{levels-few, counted-none, counted-more, counted-all}
-use Rattle.count.proofs.count_words.Statement.{statement}
-use Rattle.count.proofs.count_words.Tie as tie
+use Rattle.count.proofs.by_levels.Statement.{statement}
+use Rattle.count.proofs.by_levels.Tie as tie
 
 abbrev Inv-loop : tie.InvT-loop
 Inv-loop px w h ks n₀ j₀ n j = (j ≤ length ks) × (n ≡ total (crossings (picture w h px)) (take j ks)) × (n ≤ j * 8388608)
@@ -63,8 +63,8 @@ returns c =
     let l = c .before .loop in
     l .inv .1 ∙ counted-all (picture (a .w) (a .h) (a .px .now)) (a .ks .now) (z .pre .0) (l .j) (c .loop-test .left)
 
-pub count-words-spec : {M : Type 1} → statement M
-count-words-spec =
+pub by-levels-spec : {M : Type 1} → statement M
+by-levels-spec =
     tie.close
     (tie.spec
     Inv-loop

@@ -1,0 +1,128 @@
+-- Counting by rows of steps. Assumes nothing.
+-- Definitions: `Counted` the rows above row y are counted, and a buffer holds the steps of row y.
+-- Main laws: `row-none`, `row-more` a row of steps is filled one by one; `gap-most`, `gaps-most` how large a sum of distances is; `gaps-more` one more of them; `start`, `go`, `end` the first row, one row more, and the last; `below` the row below lies within.
+use mathlib.Core.Path.{_≡_, refl, sym, ap, subst, _∙_}
+use mathlib.Core.Bool.{true}
+use mathlib.Core.List.{List}
+use Prim.Native.Nat.{ℕ, zero, suc, _+_, _-_, _*_, _/_, _%_, _≤_, _<_}
+use native.Mathlib.Nat.{mul-le-mul-left, add-zero}
+use native.Mathlib.Omega.{arith}
+use lib.Dec.{eqb}
+use lib.Arith.{digits-mod}
+use lib.ListN.{length, getD, set, length-set}
+use lib.Seq.{getD-set-same, getD-set-other}
+use borrow.Author.Tests.{eqb-true, eqb-false}
+use Rattle.tally.specs.Tally.{apart, sum}
+use Rattle.tally.proofs.Test.{by-test}
+use Rattle.tally.proofs.Sum.{sum-same, sum-next, sum-cut}
+use Rattle.matte.specs.Layout.{eight}
+use Rattle.matte.specs.Picture.{Picture, size, at, levelsFit}
+use Rattle.outline.specs.List.{listed}
+use Rattle.refuse.specs.Shape.{Ground}
+use Rattle.count.specs.Steps.{steps, stepTable, Row, gaps, places}
+use Rattle.count.proofs.Steps.{table-at, listed-places, row-end}
+
+-- ---- one row of steps
+-- what holds of each element below b and of what is stored at b holds of each below b + 1
+pub stored : (Q : ℕ → ℕ → Type 0) (l : List ℕ) (b v : ℕ) → b < length l → ((c : ℕ) → c < b → Q c (getD l c 0)) → Q b v → (c : ℕ) → c < b + 1 → Q c (getD (set l b v) c 0)
+stored Q l b v h q t c u =
+    by-test (eqb c b)
+    (λ e.
+    let s : c ≡ b = eqb-true c b e in
+    rw (s, getD-set-same l b v 0 h) t)
+    (λ e. rw (getD-set-other l b c v 0 (eqb-false c b e)) (q c (omega (arith, eqb-false c b e))))
+
+pub row-none : (t px q : List ℕ) (from : ℕ) → length q ≡ 2048 → Row t px from 0 q
+row-none t px q from e = record { room = e; entry = λ x h. absurd (omega arith) }
+
+pub row-more : (t px q : List ℕ) (from x v : ℕ) → Row t px from x q → x < 2048 → getD px (from + x) 0 < 256 → v ≡ getD t (getD px (from + x) 0) 0 → Row t px from (x + 1) (set q x v)
+row-more t px q from x v R h b e =
+    record {
+      room = simp length-set (R .room);
+      entry = stored (λ c y. (getD px (from + c) 0 < 256) × (y ≡ getD t (getD px (from + c) 0) 0)) q x v (omega (arith, R .room)) (R .entry) (b, e);
+    }
+
+-- ---- sums of distances
+module _ (p q : List ℕ) where
+  pub gaps-none : (a : ℕ) → 0 ≡ sum (λ i. gaps p q (a + i)) (a - a)
+  unfolding sum
+  gaps-none a = let s : a - a ≡ 0 = omega arith in rw s
+
+  pub gaps-more : (a x n r : ℕ) → a ≤ x → n ≡ sum (λ i. gaps p q (a + i)) (x - a) → r ≡ gaps p q x → n + r ≡ sum (λ i. gaps p q (a + i)) (x + 1 - a)
+  gaps-more a x n r h e f =
+      let g : ℕ → ℕ = λ i. gaps p q (a + i) in
+      let s : x + 1 - a ≡ x - a + 1 = omega arith in
+      let t : a + (x - a) ≡ x = omega arith in
+      ap (λ (z : ℕ). z + r) e
+      ∙ ap (λ (z : ℕ). sum g (x - a) + z) (f ∙ ap (gaps p q) (sym t))
+      ∙ sym (sum-next g (x - a))
+      ∙ ap (sum g) (sym s)
+
+  pub gaps-piece : (a e n r : ℕ) → a ≤ e → n ≡ sum (gaps p q) a → r ≡ sum (λ i. gaps p q (a + i)) (e - a) → n + r ≡ sum (gaps p q) e
+  gaps-piece a e n r h u v =
+      let t : a + (e - a) ≡ e = omega arith in
+      ap (λ (z : ℕ). z + r) u
+      ∙ ap (λ (z : ℕ). sum (gaps p q) a + z) v
+      ∙ sym (sum-cut (gaps p q) a (e - a))
+      ∙ ap (sum (gaps p q)) t
+
+-- ---- row after row
+pub record Counted (P : Picture) (ks t p : List ℕ) (y from n : ℕ) : Type 0 where
+  pub table : t ≡ stepTable ks
+  pub within : y < P .h
+  pub start : from ≡ y * P .w
+  pub row : Row t (P .px) from (P .w) p
+  pub count : n ≡ sum (places P ks) from
+  pub most : n ≤ 65535 * from
+
+module _ (P : Picture) (G : Ground P) (ks t : List ℕ) where
+  abbrev S : ℕ → ℕ
+  S i = steps ks (at P i)
+
+  pub begin : (p : List ℕ) → t ≡ stepTable ks → Row t (P .px) 0 (P .w) p → Counted P ks t p 0 0 0
+  unfolding sum
+  begin p e R = record { table = e; within = omega (arith, G .sides .h-least); start = omega arith; row = R; count = refl; most = omega arith }
+
+  row-at : (q : List ℕ) (f x i : ℕ) → t ≡ stepTable ks → Row t (P .px) f (P .w) q → x < P .w → i ≡ f + x → getD q x 0 ≡ S i
+  row-at q f x i a R h e = R .entry x h .1 ∙ ap (λ (l : List ℕ). getD l (at P (f + x)) 0) a ∙ table-at ks (at P (f + x)) (R .entry x h .0) ∙ ap S (sym e)
+
+  module _ (p : List ℕ) (y from n : ℕ) (C : Counted P ks t p y from n) where
+    -- d rows further down is a whole row still
+    pub below : (d : ℕ) → y + d < P .h → from + d * P .w + P .w ≤ length (P .px)
+    below d h =
+        let m : P .w * (y + d + 1) ≤ P .w * P .h = mul-le-mul-left (P .w) (omega arith) in
+        omega (arith, C .start, G .whole)
+
+    -- the row's places but the last, and the last
+    row-sum : (q : List ℕ) → y + 1 < P .h → Row t (P .px) (from + P .w) (P .w) q → sum (places P ks) (from + P .w) ≡ sum (places P ks) from + sum (gaps p q) (P .w - 1)
+    row-sum q h R =
+        let v = P .w - 1 in
+        let b : from + 1 * P .w + P .w ≤ length (P .px) = below 1 h in
+        let w2 : 2 ≤ P .w = G .sides .w-least in
+        let s : from + P .w ≡ from + (v + 1) = omega arith in
+        let m : (from + v) % P .w ≡ v = ap (λ (z : ℕ). (z + v) % P .w) (C .start) ∙ digits-mod y (omega arith) in
+        let z : places P ks (from + v) ≡ 0 = row-end P G ks (from + v) (omega (arith, G .whole)) (omega arith) in
+        let g : ℕ → ℕ = λ i. places P ks (from + i) in
+        ap (sum (places P ks)) s
+        ∙ sum-cut (places P ks) from (v + 1)
+        ∙ ap (λ (k : ℕ). sum (places P ks) from + k)
+        (sum-next g v ∙ ap (λ (k : ℕ). sum g v + k) z ∙ add-zero (sum g v) ∙ sum-same g (gaps p q) v (λ x l. rw (row-at p from x (from + x) (C .table) (C .row) (omega arith) refl, row-at p from (x + 1) (from + x + 1) (C .table) (C .row) (omega arith) (omega arith), row-at q (from + P .w) x (from + x + P .w) (C .table) R (omega arith) (omega arith))))
+
+    pub go : (q : List ℕ) (z f r : ℕ) → y + 1 < P .h → z ≡ y + 1 → f ≡ from + P .w → Row t (P .px) f (P .w) q → r ≡ sum (gaps p q) (P .w - 1) → r ≤ 65535 * P .w
+        → Counted P ks t q z f (n + r)
+    go q z f r h a b R e m =
+        let R₁ : Row t (P .px) (from + P .w) (P .w) q = subst (λ (k : ℕ). Row t (P .px) k (P .w) q) b R in
+        record {
+          table = C .table;
+          within = omega arith;
+          start = omega (arith, C .start, ap (λ (k : ℕ). k * P .w) a);
+          row = R;
+          count = ap (λ (k : ℕ). k + r) (C .count) ∙ ap (λ (k : ℕ). sum (places P ks) from + k) e ∙ sym (row-sum q h R₁) ∙ ap (sum (places P ks)) (sym b);
+          most = omega (arith, C .most);
+        }
+
+    pub end : P .h ≤ y + 1 → n ≡ length (listed eight P ks)
+    end h =
+        let u : P .h ≡ y + 1 = omega (arith, C .within) in
+        let e : from ≡ size P - P .w = omega (arith, C .start, ap (λ (k : ℕ). P .w * k) u) in
+        C .count ∙ ap (sum (places P ks)) e ∙ sym (listed-places P G ks)

@@ -1,0 +1,117 @@
+// Counting by steps: a sample's step is the number of listed levels that it is high at, and an edgel is crossed as often as the steps of its ends are apart.
+ghost use mathlib.Core.Path.{_≡_};
+ghost use mathlib.Core.Bool.{Bool, true, false};
+ghost use Prim.Native.Nat.{ℕ, _+_, _*_, _-_, _≤_, _<_};
+ghost use lib.ListN.{length, getD};
+ghost use Rattle.tally.specs.Tally.{sum, apart};
+ghost use Rattle.matte.specs.Layout.{eight};
+ghost use Rattle.matte.specs.Picture.{picture, levelsFit};
+ghost use Rattle.outline.specs.List.{listed};
+ghost use Rattle.refuse.specs.Shape.{Ground};
+ghost use Rattle.count.specs.Steps.{steps, stepTable, Row, gaps};
+
+// How far two steps are apart.
+fn gap(a: u8, b: u8) -> u8
+    ensures { λ r. ⌜ (r ≡ apart a b) × (r ≤ 255) ⌝ }
+{
+    if a < b { b - a } else { a - b }
+}
+
+// The step of v + 1, j being that of v.
+fn passed(ks: &[u8], j: usize, v: usize) -> usize
+    requires { ⌜ (levelsFit eight (now ks) ≡ true) × (j ≡ steps (now ks) v) ⌝ }
+    ensures { λ r. ⌜ r ≡ steps (now (ks .entry)) (v + 1) ⌝ }
+{
+    if j < ks.len() {
+        if ks[j] as usize <= v {
+            return j + 1;
+        }
+        return j;
+    }
+    j
+}
+
+// The steps of all bytes.
+fn step_table(ks: &[u8]) -> [u8; 256]
+    requires { ⌜ levelsFit eight (now ks) ≡ true ⌝ }
+    ensures { λ r. ⌜ r ≡ stepTable (now (ks .entry)) ⌝ }
+{
+    let mut t = [0u8; 256];
+    let mut j: usize = 0;
+    let mut v: usize = 0;
+    while v < 256 {
+        t[v] = j as u8;
+        j = passed(ks, j, v);
+        v += 1;
+    }
+    t
+}
+
+// The steps of the w samples from `from` on.
+fn row_steps(t: &[u8; 256], px: &[u8], from: usize, w: usize, q: &mut [u8; 2048])
+    requires { ⌜ (from + w ≤ length (now px)) × (w ≤ 2048) × (length (now px) ≤ 4194304) × (length (now q) ≡ 2048) ⌝ }
+    ensures { λ r. ⌜ Row (now (t .entry)) (now (px .entry)) from w (now (q .exit)) ⌝ }
+{
+    let mut x: usize = 0;
+    while x < w {
+        let s = px[from + x] as usize;
+        q[x] = t[s];
+        x += 1;
+    }
+}
+
+// The distances at the places a to e - 1 of a row, at most 128 of them.
+fn short_sum(p: &[u8; 2048], q: &[u8; 2048], a: usize, e: usize) -> u16
+    requires { ⌜ (a ≤ e) × (e ≤ a + 128) × (e < 2048) ⌝ }
+    ensures { λ r. ⌜ (r ≡ sum (λ i. gaps (now (p .entry)) (now (q .entry)) (a + i)) (e - a)) × (r ≤ 65535) ⌝ }
+{
+    let mut n: u16 = 0;
+    let mut x = a;
+    while x < e {
+        n += gap(p[x], p[x + 1]) as u16 + gap(p[x], q[x]) as u16;
+        x += 1;
+    }
+    n
+}
+
+// The distances at a row's places but its last.
+fn row_sum(p: &[u8; 2048], q: &[u8; 2048], w: usize) -> usize
+    requires { ⌜ (1 ≤ w) × (w ≤ 2048) ⌝ }
+    ensures { λ r. ⌜ (r ≡ sum (gaps (now (p .entry)) (now (q .entry))) (w - 1)) × (r ≤ 65535 * w) ⌝ }
+{
+    let end = w - 1;
+    let mut n: usize = 0;
+    let mut a: usize = 0;
+    while a + 128 < end {
+        n += short_sum(p, q, a, a + 128) as usize;
+        a += 128;
+    }
+    n + short_sum(p, q, a, end) as usize
+}
+
+// The words of the list, row by row: each row of steps is looked up once and compared with the one above it.
+pub fn by_steps(px: &[u8], w: usize, h: usize, ks: &[u8]) -> usize
+    requires { ⌜ (Ground (picture w h (now px))) × (levelsFit eight (now ks) ≡ true) ⌝ }
+    ensures { λ r. ⌜ r ≡ length (listed eight (picture w h (now (px .entry))) (now (ks .entry))) ⌝ }
+{
+    let t = step_table(ks);
+    let mut p = [0u8; 2048];
+    let mut q = [0u8; 2048];
+    row_steps(&t, px, 0, w, &mut p);
+    let mut n: usize = 0;
+    let mut y: usize = 0;
+    let mut from: usize = 0;
+    while y + 2 < h {
+        row_steps(&t, px, from + w, w, &mut q);
+        n += row_sum(&p, &q, w);
+        from += w + w;
+        row_steps(&t, px, from, w, &mut p);
+        n += row_sum(&q, &p, w);
+        y += 2;
+    }
+    if y + 1 < h {
+        row_steps(&t, px, from + w, w, &mut q);
+        return n + row_sum(&p, &q, w);
+    }
+    n
+}

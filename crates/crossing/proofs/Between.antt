@@ -40,7 +40,7 @@ weighed a d m r e =
     omega arith
 
 halfway : (k a b r : ℕ) →
-  differ (ltb k a) (ltb k b) ≡ true → apart (2 * k + 1) (2 * a) + r ≡ 2 * apart a b → 2 * (a * r + b * apart (2 * k + 1) (2 * a)) ≡ (2 * k + 1) * (2 * apart a b)
+    differ (ltb k a) (ltb k b) ≡ true → apart (2 * k + 1) (2 * a) + r ≡ 2 * apart a b → 2 * (a * r + b * apart (2 * k + 1) (2 * a)) ≡ (2 * k + 1) * (2 * apart a b)
 halfway k a b r d z =
     by-test (ltb k a)
     (λ e.
@@ -60,7 +60,7 @@ halfway k a b r d z =
 
 -- the mean of the two ends, weighed by what is left and what is gone of the way, is k + ½ (01, Picture, levels, edgels)
 pub height : (P : Picture) (k c r : ℕ) →
-  crossed (high P k) (P .w) c ≡ true → num P k c + r ≡ den P k c → 2 * (at P (first c) * r + at P (second (P .w) c) * num P k c) ≡ (2 * k + 1) * den P k c
+    crossed (high P k) (P .w) c ≡ true → num P k c + r ≡ den P k c → 2 * (at P (first c) * r + at P (second (P .w) c) * num P k c) ≡ (2 * k + 1) * den P k c
 unfolding crossed num den
 height P k c r e z = halfway k (at P (first c)) (at P (second (P .w) c)) r e z
 
@@ -73,5 +73,5 @@ pub done-between : (P : Picture) (k c : ℕ) → crossingVerdict P k c eight .nu
 done-between P k c z = between P k c (fine P k c (crossingVerdict P k c eight) refl z .cut)
 
 pub done-height : (P : Picture) (k c r : ℕ) →
-  crossingVerdict P k c eight .number ≡ 0 → num P k c + r ≡ den P k c → 2 * (at P (first c) * r + at P (second (P .w) c) * num P k c) ≡ (2 * k + 1) * den P k c
+    crossingVerdict P k c eight .number ≡ 0 → num P k c + r ≡ den P k c → 2 * (at P (first c) * r + at P (second (P .w) c) * num P k c) ≡ (2 * k + 1) * den P k c
 done-height P k c r z = height P k c r (fine P k c (crossingVerdict P k c eight) refl z .cut)

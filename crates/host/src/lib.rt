@@ -84,21 +84,41 @@ fn told(f: Found) -> ToldPiece
 }
 
 #[no_mangle]
-pub extern "C" fn loafcanyon_list(w: usize, h: usize, px: &[u8], levels: &[u8], work: &mut [u8], words: &mut [u32]) -> Answer
+pub extern "C" fn loafcanyon_list(
+    w: usize,
+    h: usize,
+    px: &[u8],
+    levels: &[u8],
+    work: &mut [u8],
+    words: &mut [u32],
+) -> Answer
     ensures { λ r. ⌜ (r ≡ listAnswer eight (picture w h (now (px .entry))) (now (levels .entry)) (now (work .entry)) (now (words .entry))) × (now (work .exit) ≡ listWork eight (picture w h (now (px .entry))) (now (levels .entry)) (now (work .entry)) (now (words .entry))) × (now (words .exit) ≡ listWords eight (picture w h (now (px .entry))) (now (levels .entry)) (now (work .entry)) (now (words .entry))) ⌝ }
 {
     list(w, h, px, levels, work, words)
 }
 
 #[no_mangle]
-pub extern "C" fn loafcanyon_crossing(w: usize, h: usize, px: &[u8], level: u8, code: u32) -> Crossing
+pub extern "C" fn loafcanyon_crossing(
+    w: usize,
+    h: usize,
+    px: &[u8],
+    level: u8,
+    code: u32,
+) -> Crossing
     ensures { λ r. ⌜ r ≡ crossingAnswer (picture w h (now (px .entry))) level code eight ⌝ }
 {
     crossing_at(w, h, px, level, code)
 }
 
 #[no_mangle]
-pub extern "C" fn loafcanyon_piece(w: usize, h: usize, px: &[u8], level: u8, x: usize, y: usize) -> ToldPiece
+pub extern "C" fn loafcanyon_piece(
+    w: usize,
+    h: usize,
+    px: &[u8],
+    level: u8,
+    x: usize,
+    y: usize,
+) -> ToldPiece
     ensures { λ r. ⌜ r ≡ toldPiece (pieceAnswer (picture w h (now (px .entry))) level x y eight) ⌝ }
 {
     told(piece_at(w, h, px, level, x, y))
@@ -124,21 +144,42 @@ pub extern "C" fn loafcanyon_part(words: &[u32], n: usize) -> LinePlace
 }
 
 #[no_mangle]
-pub extern "C" fn loafcanyon_member(w: usize, h: usize, words: &[u32], n: usize, x: usize, y: usize) -> Membership
+pub extern "C" fn loafcanyon_member(
+    w: usize,
+    h: usize,
+    words: &[u32],
+    n: usize,
+    x: usize,
+    y: usize,
+) -> Membership
     ensures { λ r. ⌜ r ≡ memberAnswer eight w h (now (words .entry)) n x y ⌝ }
 {
     member(w, h, words, n, x, y)
 }
 
 #[no_mangle]
-pub extern "C" fn loafcanyon_paint(w: usize, h: usize, v: u8, levels: &[u8], words: &[u32], room: &mut [u8]) -> Answer
+pub extern "C" fn loafcanyon_paint(
+    w: usize,
+    h: usize,
+    v: u8,
+    levels: &[u8],
+    words: &[u32],
+    room: &mut [u8],
+) -> Answer
     ensures { λ r. ⌜ (r ≡ paintAnswer eight w v (now (levels .entry)) (now (words .entry)) h (now (room .entry))) × (now (room .exit) ≡ paintRoom eight w v (now (levels .entry)) (now (words .entry)) h (now (room .entry))) ⌝ }
 {
     paint_words(w, h, v, levels, words, room)
 }
 
 #[no_mangle]
-pub extern "C" fn loafcanyon_write(w: usize, h: usize, v: u8, levels: &[u8], words: &[u32], file: &mut [u8]) -> Answer
+pub extern "C" fn loafcanyon_write(
+    w: usize,
+    h: usize,
+    v: u8,
+    levels: &[u8],
+    words: &[u32],
+    file: &mut [u8],
+) -> Answer
     ensures { λ r. ⌜ (r ≡ writeAnswer w h v (now (levels .entry)) (now (words .entry)) (now (file .entry))) × (now (file .exit) ≡ writeRoom w h v (now (levels .entry)) (now (words .entry)) (now (file .entry))) ⌝ }
 {
     write_file(w, h, v, levels, words, file)

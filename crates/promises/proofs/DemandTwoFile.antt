@@ -38,7 +38,7 @@ module _ (w h v : ℕ) (ks ws room : List ℕ) (below : Below 4294967296 ws) (do
 module _ (f out : List ℕ) (bytes : Below 256 f) (done : readVerdict f out .number ≡ 0) where
   -- nothing else reads as a file
   pub read-writes : (room : List ℕ) → length f ≤ length room
-    → (writeVerdict (fileWidth f) (fileHeight f) (fileBorder f) (fileLevels f) (fileWords f) room .number ≡ 0)
+      → (writeVerdict (fileWidth f) (fileHeight f) (fileBorder f) (fileLevels f) (fileWords f) room .number ≡ 0)
       × (writeRoom (fileWidth f) (fileHeight f) (fileBorder f) (fileLevels f) (fileWords f) room ≡ f ++ drop (length f) room)
   read-writes room roomy =
       let w = fileWidth f in

@@ -25,7 +25,18 @@ pub struct Written {
 }
 
 // All lines of level k, their words behind those that stand there already.
-fn level_lines(px: &[u8], w: usize, h: usize, k: u8, lo: &[u8; 65536], hi: &[u8; 65536], blocks: usize, work: &mut [u8], words: &mut [u32], st: Written) -> Written
+fn level_lines(
+    px: &[u8],
+    w: usize,
+    h: usize,
+    k: u8,
+    lo: &[u8; 65536],
+    hi: &[u8; 65536],
+    blocks: usize,
+    work: &mut [u8],
+    words: &mut [u32],
+    st: Written,
+) -> Written
     requires { ⌜ (LevelReady (picture w h (now px)) k (now work) (now words) st) × (Blocks (now px) (now lo) (now hi) blocks) ⌝ }
     ensures { λ r. ⌜ LevelDone (picture w h (now (px .entry))) k (now (work .entry)) (now (words .entry)) st r (now (work .exit)) (now (words .exit)) ⌝ }
 {

@@ -96,7 +96,10 @@ fn first_in(px: &[u8], work: &[u8], a: usize, s: u8, k: u8, mark: u8) -> u8
     let mut i: u8 = 0;
     while i < 64 {
         let p = a + i as usize;
-        m = lesser(m, or_top(is_fresh(px[p], px[p + 1], work[p], k, mark) & (s <= i), i));
+        m = lesser(
+            m,
+            or_top(is_fresh(px[p], px[p + 1], work[p], k, mark) & (s <= i), i),
+        );
         i += 1;
     }
     m
@@ -172,7 +175,15 @@ fn tail(px: &[u8], work: &[u8], k: u8, from: usize) -> usize
 }
 
 // The same, passing over blocks that the level does not enter.
-pub fn search(px: &[u8], work: &[u8], lo: &[u8; 65536], hi: &[u8; 65536], blocks: usize, k: u8, from: usize) -> usize
+pub fn search(
+    px: &[u8],
+    work: &[u8],
+    lo: &[u8; 65536],
+    hi: &[u8; 65536],
+    blocks: usize,
+    k: u8,
+    from: usize,
+) -> usize
     requires { ⌜ (from < length (now px)) × (length (now px) ≤ length (now work)) × (k < 255) × Blocks (now px) (now lo) (now hi) blocks ⌝ }
     ensures { λ r. ⌜ r ≡ firstFrom (fresh (now (px .entry)) (now (work .entry)) k) from (length (now (px .entry)) - 1 - from) ⌝ }
 {

@@ -55,9 +55,9 @@ loop-again c =
     let h : l .loop .i < length s = omega arith in (
       omega arith,
       ⊎-elim
-      (λ w. rw (w .2) (omega (arith, l .loop .inv .1, start-skip eight s (l .loop .i) h (l .loop .left) (sym (c .before .flagged .ensures) ∙ w .0 .taken) (omega (arith, w .1 .left)))))
-      (λ w. rw (w .1) (omega (arith, l .loop .inv .1, start-more eight s (l .loop .i) h (l .loop .left) (sym (c .before .flagged .ensures) ∙ w .0 .left))))
-      (c .if1 .came),
+          (λ w. rw (w .2) (omega (arith, l .loop .inv .1, start-skip eight s (l .loop .i) h (l .loop .left) (sym (c .before .flagged .ensures) ∙ w .0 .taken) (omega (arith, w .1 .left)))))
+          (λ w. rw (w .1) (omega (arith, l .loop .inv .1, start-more eight s (l .loop .i) h (l .loop .left) (sym (c .before .flagged .ensures) ∙ w .0 .left))))
+          (c .if1 .came),
     )
 
 returns-2 : tie.Need-returns-2 Inv-loop μ-loop

@@ -37,8 +37,7 @@ highs-requires c κs =
 loop-holds : tie.Need-loop-holds Inv-loop μ-loop
 loop-holds c =
     let z = c .before .before .before .before .before .before .before .before in
-    let a = z .args in
-    (
+    let a = z .args in (
       refl,
       refl,
       λ R. all-begin (picture (a .w) (a .h) (a .px .now)) (a .ks .now) (a .work .now) (a .words .now) R,
@@ -68,8 +67,7 @@ loop-again c =
     let a = z .args in
     let R = z .pre in
     let l = c .before .before .before .before .before .before .before .before .before .before .before .loop in
-    let r = c .before .before .before .before .level-lines in
-    (
+    let r = c .before .before .before .before .level-lines in (
       r .kept .1 .1 .1 .1 .1 .1 .1 .0 ∙ l .inv .0,
       r .kept .1 .1 .1 .1 .1 .1 .1 .1 .0 ∙ l .inv .1,
       λ R. all-go (picture (a .w) (a .h) (a .px .now)) (a .ks .now) (a .work .now) (a .words .now) R (l .j) (c .before .before .before .before .before .before .before .before .before .before .loop-test .taken) (l .s) (l .work) (l .words) (l .inv .2 R) (l .inv .1) _ _ _ (r .ensures),

@@ -49,8 +49,7 @@ loop-again : tie.Need-loop-again Inv-loop μ-loop
 loop-again c =
     let a = c .before .before .before .before .before .before .args in
     let l = c .before .before .before .before .before .loop in
-    let p : ℕ → Bool = λ j. not (liveAt (a .lo .now) (a .hi .now) (a .k) (a .b + j)) in
-    (
+    let p : ℕ → Bool = λ j. not (liveAt (a .lo .now) (a .hi .now) (a .k) (a .b + j)) in (
       omega arith,
       any-more p (l .i) (l .any) (liveAt (a .lo .now) (a .hi .now) (a .k) (a .b + l .i)) (l .inv .1) refl
           ∙ ap (λ (z : ℕ). eqb z 0) (sym (c .greater .ensures ∙ ap (max (l .any)) (c .before .one-if .ensures .0))),

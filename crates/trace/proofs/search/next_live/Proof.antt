@@ -49,8 +49,7 @@ loop-again c =
     let z = c .before .before .before .before in
     let a = z .args in
     let l = c .before .before .before .loop in
-    let none : every (λ i. not ((liveAt (a .lo .now) (a .hi .now) (a .k)) (l .c + i))) 16 ≡ true = not-false _ (sym (c .before .live16 .ensures) ∙ c .if1 .left) in
-    (
+    let none : every (λ i. not ((liveAt (a .lo .now) (a .hi .now) (a .k)) (l .c + i))) 16 ≡ true = not-false _ (sym (c .before .live16 .ensures) ∙ c .if1 .left) in (
       omega (arith, l .inv .0),
       omega (arith, c .before .before .loop-test .taken),
       λ d x y.

@@ -42,8 +42,7 @@ loop-less c = omega (arith, c .before .before .loop-test .taken)
 loop-again : tie.Need-loop-again Inv-loop μ-loop
 loop-again c =
     let a = c .before .before .before .before .args in
-    let l = c .before .before .before .loop in
-    (
+    let l = c .before .before .before .loop in (
       omega (arith, l .inv .0),
       omega (arith, c .before .before .loop-test .taken),
       λ d x y.

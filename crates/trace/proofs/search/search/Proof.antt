@@ -100,8 +100,7 @@ loop-holds c =
     let r = c .next-live .result in
     let g : f + 1 ≤ r = rw (c .next-live .ensures) (from-ge (liveAt (a .lo .now) (a .hi .now) (a .k)) (f + 1) (a .blocks - (f + 1))) in
     let h : r ≤ f + 1 + (a .blocks - (f + 1)) = rw (c .next-live .ensures) (from-le (liveAt (a .lo .now) (a .hi .now) (a .k)) (f + 1) (a .blocks - (f + 1))) in
-    let t : r ≤ a .blocks = omega (arith, c .before .before .before .if1 .left) in
-    (
+    let t : r ≤ a .blocks = omega (arith, c .before .before .before .if1 .left) in (
       t,
       omega arith,
       bare-dead (a .px .now) (a .work .now) (a .lo .now) (a .hi .now) (a .k) (a .blocks) B (a .from) (f + 1) r t
@@ -191,8 +190,7 @@ loop-again c =
     let r = c .next-live2 .result in
     let g : l .b + 1 ≤ r = rw (c .next-live2 .ensures) (from-ge (liveAt (a .lo .now) (a .hi .now) (a .k)) (l .b + 1) (a .blocks - (l .b + 1))) in
     let h : r ≤ l .b + 1 + (a .blocks - (l .b + 1)) = rw (c .next-live2 .ensures) (from-le (liveAt (a .lo .now) (a .hi .now) (a .k)) (l .b + 1) (a .blocks - (l .b + 1))) in
-    let t : r ≤ a .blocks = omega (arith, c .before .before .before .loop-test .taken) in
-    (
+    let t : r ≤ a .blocks = omega (arith, c .before .before .before .loop-test .taken) in (
       t,
       omega (arith, l .inv .1),
       bare-dead (a .px .now) (a .work .now) (a .lo .now) (a .hi .now) (a .k) (a .blocks) B (a .from) (l .b + 1) r t

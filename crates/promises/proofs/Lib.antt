@@ -1,4 +1,5 @@
 pub mod SmallPictures
+pub mod DemandOne
 pub mod DemandThree
 pub mod DemandTwoList
 pub mod DemandTwoPaint

@@ -1,0 +1,38 @@
+-- The customer's first demand, of lent memory: a refused call changes none. Assumes nothing.
+-- Main laws: `list-kept`, `tree-kept`, `frame-kept`, `paint-kept`, `write-kept`, `read-kept` one for each call that is lent memory to write to. That a call comes to an end without a fault is the proof of its
+--   function; which number it gives is `first-decides` and `decided-first` of matte.
+use mathlib.Core.Path.{_≡_}
+use mathlib.Core.List.{List}
+use mathlib.Core.Logic.{_≢_}
+use Prim.Native.Nat.{ℕ}
+use Rattle.matte.specs.Layout.{eight}
+use Rattle.matte.specs.Picture.{Picture}
+use Rattle.matte.proofs.Rows.{refused-after}
+use Rattle.outline.specs.List.{listVerdict, listWork, listWords}
+use Rattle.enclosure.specs.Call.{treeVerdict, treeWork, treeWords, treeEntries}
+use Rattle.frame.specs.Frame.{frameVerdict, frameRoom}
+use Rattle.paint.specs.Paint.{paintVerdict, paintRoom}
+use Rattle.olr.specs.File.{writeVerdict, writeRoom}
+use Rattle.olr.specs.Read.{readVerdict, readWords}
+
+module _ (P : Picture) (ks work out : List ℕ) where
+  pub list-kept : listVerdict eight P ks work out .number ≢ 0 → (listWork eight P ks work out ≡ work) × (listWords eight P ks work out ≡ out)
+  list-kept n = (refused-after (listVerdict eight P ks work out) work _ n, refused-after (listVerdict eight P ks work out) out _ n)
+
+  pub tree-kept : (tree : List ℕ) → treeVerdict eight P ks work out tree .number ≢ 0
+    → (treeWork eight P ks work out tree ≡ work) × (treeWords eight P ks work out tree ≡ out) × (treeEntries eight P ks work out tree ≡ tree)
+  tree-kept tree n =
+      let v = treeVerdict eight P ks work out tree in
+      (refused-after v work _ n, refused-after v out _ n, refused-after v tree _ n)
+
+pub frame-kept : (P : Picture) (room : List ℕ) → frameVerdict eight P room .number ≢ 0 → frameRoom eight P room ≡ room
+frame-kept P room n = refused-after (frameVerdict eight P room) room _ n
+
+pub paint-kept : (w v : ℕ) (ks ws : List ℕ) (h : ℕ) (room : List ℕ) → paintVerdict eight w v ks ws h room .number ≢ 0 → paintRoom eight w v ks ws h room ≡ room
+paint-kept w v ks ws h room n = refused-after (paintVerdict eight w v ks ws h room) room _ n
+
+pub write-kept : (w h v : ℕ) (ks ws room : List ℕ) → writeVerdict w h v ks ws room .number ≢ 0 → writeRoom w h v ks ws room ≡ room
+write-kept w h v ks ws room n = refused-after (writeVerdict w h v ks ws room) room _ n
+
+pub read-kept : (f out : List ℕ) → readVerdict f out .number ≢ 0 → readWords f out ≡ out
+read-kept f out n = refused-after (readVerdict f out) out _ n

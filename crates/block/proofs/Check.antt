@@ -54,7 +54,7 @@ stirred-below s (b ∷ l) h = stirred-below (stir s b) l (stir-below s b)
 
 pub check-below : (n : ℕ) (p : List ℕ) → check n p < 4294967296
 unfolding check
-check-below n p = stirred-below (n % 4294967296) p (omega arith)
+check-below n p = stirred-below _ p (omega arith)
 
 -- the sum's start is told by the sum
 pub start-told : (s t : ℕ) (l : List ℕ) → s < 4294967296 → t < 4294967296 → stirred s l ≡ stirred t l → s ≡ t
@@ -71,12 +71,12 @@ byte-told s (c ∷ x) a b y g h e = byte-told (stir s c) x a b y g h e
 pub set-told : (n : ℕ) (p : List ℕ) (i b : ℕ) → i < length p → getD p i 0 < 256 → b < 256 → check n (set p i b) ≡ check n p → b ≡ getD p i 0
 unfolding check
 set-told n p i b l g h e =
-    byte-told (n % 4294967296) (take i p) b (getD p i 0) (drop (suc i) p) h g
-    (ap (stirred (n % 4294967296)) (sym (set-split p i b l)) ∙ e ∙ ap (stirred (n % 4294967296)) (split-at p i 0 l))
+    byte-told _ (take i p) b (getD p i 0) (drop (suc i) p) h g
+    (ap (stirred _) (sym (set-split p i b l)) ∙ e ∙ ap (stirred _) (split-at p i 0 l))
 
 -- the block's number is told by the check
 pub number-told : (m n : ℕ) (p : List ℕ) → m < 4294967296 → n < 4294967296 → check m p ≡ check n p → m ≡ n
 unfolding check
 number-told m n p g h e =
-    let r : m % 4294967296 ≡ n % 4294967296 = start-told (m % 4294967296) (n % 4294967296) p (omega arith) (omega arith) e in
+    let r : m % 4294967296 ≡ n % 4294967296 = start-told _ _ p (omega arith) (omega arith) e in
     omega arith

@@ -1,0 +1,3 @@
+pub mod Note
+pub mod Value
+pub mod Made

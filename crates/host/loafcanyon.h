@@ -65,6 +65,11 @@ struct loafcanyon_answer loafcanyon_list(size_t w, size_t h, const uint8_t *px, 
                                          const uint8_t *levels, size_t level_count, uint8_t *work, size_t work_count,
                                          uint32_t *words, size_t word_count);
 
+/* As loafcanyon_list, and for each line its entry: 0 for a root, else the parent's number + 1; 2^31 is added if it is lower. */
+struct loafcanyon_answer loafcanyon_tree(size_t w, size_t h, const uint8_t *px, size_t px_count,
+                                         const uint8_t *levels, size_t level_count, uint8_t *work, size_t work_count,
+                                         uint32_t *words, size_t word_count, uint32_t *places, size_t place_count);
+
 struct loafcanyon_answer loafcanyon_frame(size_t w, size_t h, const uint8_t *px, size_t px_count, uint8_t *room,
                                           size_t room_count);
 

@@ -14,6 +14,7 @@ pub struct Library;
 /// The calls that are linked.
 const LINKED: &[Call] = &[
     Call::List,
+    Call::Tree,
     Call::Frame,
     Call::Crossing,
     Call::Piece,
@@ -90,6 +91,10 @@ extern "C" {
         w: usize, h: usize, px: *const u8, px_len: usize, levels: *const u8, levels_len: usize, work: *mut u8,
         work_len: usize, words: *mut u32, words_len: usize,
     ) -> Told;
+    fn loafcanyon_tree(
+        w: usize, h: usize, px: *const u8, px_len: usize, levels: *const u8, levels_len: usize, work: *mut u8,
+        work_len: usize, words: *mut u32, words_len: usize, places: *mut u32, places_len: usize,
+    ) -> Told;
     fn loafcanyon_crossing(w: usize, h: usize, px: *const u8, px_len: usize, level: u8, code: u32) -> ToldCrossing;
     fn loafcanyon_piece(
         w: usize, h: usize, px: *const u8, px_len: usize, level: u8, x: usize, y: usize,
@@ -137,7 +142,23 @@ impl Calls for Library {
     fn tree(
         &self, w: usize, h: usize, px: &[u8], levels: &[u8], work: &mut [u8], words: &mut [u32], tree: &mut [u32],
     ) -> Answer {
-        unlinked()
+        unsafe {
+            loafcanyon_tree(
+                w,
+                h,
+                px.as_ptr(),
+                px.len(),
+                levels.as_ptr(),
+                levels.len(),
+                work.as_mut_ptr(),
+                work.len(),
+                words.as_mut_ptr(),
+                words.len(),
+                tree.as_mut_ptr(),
+                tree.len(),
+            )
+        }
+        .into()
     }
 
     fn frame(&self, w: usize, h: usize, px: &[u8], room: &mut [u8]) -> Answer {

@@ -15,10 +15,12 @@ use piece::Found;
 use piece::Piece;
 use piece::piece_at;
 use trace::list;
+use tree::tree;
 ghost use mathlib.Core.Path.{_≡_};
 ghost use Rattle.matte.specs.Layout.{eight};
 ghost use Rattle.matte.specs.Picture.{picture};
 ghost use Rattle.outline.specs.List.{listAnswer, listWork, listWords};
+ghost use Rattle.enclosure.specs.Call.{treeAnswer, treeWork, treeWords, treeEntries};
 ghost use Rattle.crossing.specs.Crossing.{crossingAnswer};
 ghost use Rattle.piece.specs.Piece.{pieceAnswer};
 ghost use Rattle.frame.specs.Frame.{frameAnswer, frameRoom};
@@ -95,6 +97,13 @@ pub extern "C" fn loafcanyon_list(
     ensures { λ r. ⌜ (r ≡ listAnswer eight (picture w h (now (px .entry))) (now (levels .entry)) (now (work .entry)) (now (words .entry))) × (now (work .exit) ≡ listWork eight (picture w h (now (px .entry))) (now (levels .entry)) (now (work .entry)) (now (words .entry))) × (now (words .exit) ≡ listWords eight (picture w h (now (px .entry))) (now (levels .entry)) (now (work .entry)) (now (words .entry))) ⌝ }
 {
     list(w, h, px, levels, work, words)
+}
+
+#[no_mangle]
+pub extern "C" fn loafcanyon_tree(w: usize, h: usize, px: &[u8], levels: &[u8], work: &mut [u8], words: &mut [u32], places: &mut [u32]) -> Answer
+    ensures { λ r. ⌜ (r ≡ treeAnswer eight (picture w h (now (px .entry))) (now (levels .entry)) (now (work .entry)) (now (words .entry)) (now (places .entry))) × (now (work .exit) ≡ treeWork eight (picture w h (now (px .entry))) (now (levels .entry)) (now (work .entry)) (now (words .entry)) (now (places .entry))) × (now (words .exit) ≡ treeWords eight (picture w h (now (px .entry))) (now (levels .entry)) (now (work .entry)) (now (words .entry)) (now (places .entry))) × (now (places .exit) ≡ treeEntries eight (picture w h (now (px .entry))) (now (levels .entry)) (now (work .entry)) (now (words .entry)) (now (places .entry))) ⌝ }
+{
+    tree(w, h, px, levels, work, words, places)
 }
 
 #[no_mangle]

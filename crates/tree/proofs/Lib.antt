@@ -2,6 +2,7 @@ pub mod Sums
 pub mod Noting
 pub mod Ranked
 pub mod Deciding
+pub mod Bits
 pub mod Walked
 pub mod Flagged
 pub mod Making

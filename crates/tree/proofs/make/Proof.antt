@@ -3,12 +3,11 @@ use mathlib.Core.Path.{_≡_, refl, sym, ap, _∙_}
 use native.Mathlib.Omega.{arith}
 use Rattle.matte.specs.Picture.{picture}
 use Rattle.tree.proofs.Making.{collect-ready, notes-ready, walk-ready, strip-ready, made}
-use borrow.Author.Needs.{needs}
 use Rattle.tree.proofs.make.Statement.{statement}
 use Rattle.tree.proofs.make.Tie as tie
 
 list-requires : tie.Need-list-requires
-list-requires c κs = search needs
+list-requires c κs = tt
 
 collect-requires : tie.Need-collect-requires
 collect-requires c κs =
@@ -39,7 +38,7 @@ strip-requires c κs =
     strip-ready (picture (a .w) (a .h) (a .px .now)) (a .levels .now) (a .work .now) (a .words .now) (a .places .now) (z .pre .0) (z .pre .1) _ _ _ (l .ensures .0) (l .ensures .1) (l .ensures .2) _ (c .before .before .before .before .before .before .before .before .before .before .before .before .before .collect .ensures) _ (c .before .before .before .before .before .before .before .before .note-all .ensures .1) (c .before .before .before .before .before .before .before .before .note-all .kept .1 .1 .1 .1 .1 .1 .0) _ (c .before .before .before .walk .ensures)
 
 list-requires-2 : tie.Need-list-requires-2
-list-requires-2 c κs = search needs
+list-requires-2 c κs = tt
 
 same-length : tie.Need-same-length
 same-length c =
@@ -50,7 +49,7 @@ same-length-2 c =
     c .before .before .before .before .list2 .kept .1 .1 .1 .1 .1 .0 ∙ c .before .before .before .before .before .before .before .before .before .before .before .before .before .before .before .before .before .before .note-all .kept .1 .1 .1 .1 .1 .1 .0 ∙ c .before .before .before .before .before .before .before .before .before .before .before .before .before .before .before .before .before .before .before .before .before .before .before .before .before .before .before .before .before .before .list .kept .1 .1 .1 .1 .1 .0
 
 same-length-3 : tie.Need-same-length-3
-same-length-3 c = search needs
+same-length-3 c = c .before .before .before .before .before .before .before .before .before .strip .kept .0 ∙ c .before .before .before .before .before .before .before .before .before .before .before .before .before .walk .kept .1 .1 .1 .1 .1 .0 ∙ c .before .before .before .before .before .before .before .before .before .before .before .before .before .before .before .before .before .before .before .before .before .before .before .collect .kept .1 .1 .0
 
 returns : tie.Need-returns
 returns c =

@@ -10,12 +10,11 @@ use Rattle.outline.specs.List.{listVerdict}
 use Rattle.trace.proofs.Refusals.{Sound, sound}
 use Rattle.enclosure.specs.Call.{heads, half}
 use Rattle.tree.proofs.Verdicts.{refused-first, at-7, at-none, half-is}
-use borrow.Author.Needs.{needs}
 use Rattle.tree.proofs.tree_verdict.Statement.{statement}
 use Rattle.tree.proofs.tree_verdict.Tie as tie
 
 list-verdict-requires : tie.Need-list-verdict-requires
-list-verdict-requires c κs = search needs
+list-verdict-requires c κs = tt
 
 returns : tie.Need-returns
 returns c =

@@ -1,12 +1,11 @@
 -- `tree::note::at_lead` meets its contract. Assumes nothing.
 use mathlib.Core.Path.{sym, _∙_}
 use Rattle.trace.proofs.Places.{lead-code, no-lead}
-use borrow.Author.Needs.{needs}
 use Rattle.tree.proofs.note.at_lead.Statement.{statement}
 use Rattle.tree.proofs.note.at_lead.Tie as tie
 
 level-requires : tie.Need-level-requires
-level-requires c κs = search needs
+level-requires c κs = tt
 
 returns : tie.Need-returns
 returns c = sym (lead-code (c .before .before .args .s) (c .before .before .args .e) (sym (c .before .level .ensures (c .before .before .args .s .place)) ∙ c .if1 .taken))

@@ -10,7 +10,7 @@ use Rattle.tree.proofs.note.put_note.Statement.{statement}
 use Rattle.tree.proofs.note.put_note.Tie as tie
 
 level-requires : tie.Need-level-requires
-level-requires c κs = search needs
+level-requires c κs = tt
 
 rank-of-requires : tie.Need-rank-of-requires
 rank-of-requires c κs = search needs

@@ -1,8 +1,10 @@
 //! The proved library as the subject.
 //!
 //! The exports are declared in one `extern "C"` block here, and each method of `Calls` hands its
-//! numbers and slices over to one of them. `has` says yes to a call once its export is linked.
-//! Until then a call is left out by every group.
+//! numbers and slices over to one of them. The listing is asked of the program.
+
+use std::io::{ErrorKind, Write};
+use std::process::{Command, Stdio};
 
 use second::{Answer, Centre, Crossing, Piece, Read};
 
@@ -23,6 +25,7 @@ const LINKED: &[Call] = &[
     Call::Paint,
     Call::Write,
     Call::Read,
+    Call::Listing,
 ];
 
 /// The answer as the library lays it out.
@@ -115,7 +118,6 @@ extern "C" {
     fn loafcanyon_read(file: *const u8, file_len: usize, words: *mut u32, words_len: usize) -> ToldStored;
 }
 
-#[allow(unused_variables)]
 impl Calls for Library {
     fn has(&self, call: Call) -> bool {
         LINKED.contains(&call)
@@ -215,11 +217,21 @@ impl Calls for Library {
         }
     }
 
+    /// The program itself is run: it is proved and built beside the library.
     fn listing(&self, input: &[u8]) -> Vec<u8> {
-        unlinked()
+        let mut child = Command::new(concat!(env!("CARGO_MANIFEST_DIR"), "/../target/bin/listing"))
+            .stdin(Stdio::piped())
+            .stdout(Stdio::piped())
+            .spawn()
+            .expect("the listing program is built: rt check listing");
+        let mut pipe = child.stdin.take().expect("the program has a standard input");
+        // Input that is too long is not read to its end, so a broken pipe is no fault.
+        if let Err(error) = pipe.write_all(input) {
+            assert_eq!(error.kind(), ErrorKind::BrokenPipe, "writing to the program: {error}");
+        }
+        drop(pipe);
+        let output = child.wait_with_output().expect("the program ends");
+        assert!(output.status.success(), "the program ends with {}", output.status);
+        output.stdout
     }
-}
-
-fn unlinked() -> ! {
-    unreachable!("the groups leave out a call that is not linked")
 }

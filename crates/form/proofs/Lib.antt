@@ -1,0 +1,10 @@
+pub mod Decimal
+pub mod Numbers
+pub mod Prefix
+pub mod Line
+pub mod Head
+pub mod Whole
+pub mod Exact
+pub mod ExactHead
+pub mod ExactForm
+pub mod Longest

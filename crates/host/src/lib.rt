@@ -100,7 +100,15 @@ pub extern "C" fn loafcanyon_list(
 }
 
 #[no_mangle]
-pub extern "C" fn loafcanyon_tree(w: usize, h: usize, px: &[u8], levels: &[u8], work: &mut [u8], words: &mut [u32], places: &mut [u32]) -> Answer
+pub extern "C" fn loafcanyon_tree(
+    w: usize,
+    h: usize,
+    px: &[u8],
+    levels: &[u8],
+    work: &mut [u8],
+    words: &mut [u32],
+    places: &mut [u32],
+) -> Answer
     ensures { λ r. ⌜ (r ≡ treeAnswer eight (picture w h (now (px .entry))) (now (levels .entry)) (now (work .entry)) (now (words .entry)) (now (places .entry))) × (now (work .exit) ≡ treeWork eight (picture w h (now (px .entry))) (now (levels .entry)) (now (work .entry)) (now (words .entry)) (now (places .entry))) × (now (words .exit) ≡ treeWords eight (picture w h (now (px .entry))) (now (levels .entry)) (now (work .entry)) (now (words .entry)) (now (places .entry))) × (now (places .exit) ≡ treeEntries eight (picture w h (now (px .entry))) (now (levels .entry)) (now (work .entry)) (now (words .entry)) (now (places .entry))) ⌝ }
 {
     tree(w, h, px, levels, work, words, places)

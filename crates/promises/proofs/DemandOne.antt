@@ -20,7 +20,7 @@ module _ (P : Picture) (ks work out : List ℕ) where
   list-kept n = (refused-after (listVerdict eight P ks work out) work _ n, refused-after (listVerdict eight P ks work out) out _ n)
 
   pub tree-kept : (tree : List ℕ) → treeVerdict eight P ks work out tree .number ≢ 0
-    → (treeWork eight P ks work out tree ≡ work) × (treeWords eight P ks work out tree ≡ out) × (treeEntries eight P ks work out tree ≡ tree)
+      → (treeWork eight P ks work out tree ≡ work) × (treeWords eight P ks work out tree ≡ out) × (treeEntries eight P ks work out tree ≡ tree)
   tree-kept tree n =
       let v = treeVerdict eight P ks work out tree in
       (refused-after v work _ n, refused-after v out _ n, refused-after v tree _ n)

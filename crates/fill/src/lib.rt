@@ -1,1 +1,1 @@
-// Definitions and laws only.
+// No code: definitions and laws only.

@@ -1,8 +1,7 @@
 -- Numbers in decimal: how they are built, how long they are, how they begin. Assumes nothing.
 -- Main laws: `by-digits` induction from a number's tenth; `decimal-small` one digit; `decimal-more` the last digit apart; `decimal-next` one digit more at the end; `decimal-some` there is a digit;
 --   `decimal-length` at most as many digits as the power of ten says; `decimal-head` no leading zero.
-use mathlib.Core.Path.{_≡_, refl, sym, ap, _∙_}
-use mathlib.Core.Bool.{Bool, true, false}
+use mathlib.Core.Path.{_≡_, ap, _∙_}
 use mathlib.Core.List.{List, [], _∷_, _++_}
 use Prim.Native.Nat.{ℕ, zero, suc, _+_, _*_, _/_, _%_, _^_, _≤_, _<_}
 use native.Mathlib.Nat.{pow-suc}

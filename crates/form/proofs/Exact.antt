@@ -2,26 +2,23 @@
 -- Definitions: `Small` every level is at most 255; `Line` a list begins with a line of levels.
 -- Main laws: `levels-sound` what is read is such a line; `levels-complete` every such line is read; `known`, `seam` a byte and what comes after it.
 use mathlib.Core.Path.{_≡_, refl, sym, ap, _∙_}
-use mathlib.Core.Bool.{Bool, true, false, cond}
+use mathlib.Core.Bool.{Bool, true}
 use mathlib.Core.List.{List, [], _∷_, _++_, append-assoc}
-use Prim.Native.Nat.{ℕ, zero, suc, _+_, _-_, _*_, _≤_, _<_}
+use Prim.Native.Nat.{ℕ, zero, suc, _+_, _-_, _≤_, _<_}
 use native.Mathlib.Nat.{add-zero}
 use native.Mathlib.Omega.{arith}
-use borrow.Author.Tests.{eq-eqb, ne-eqb, eqb-true, eqb-false}
+use borrow.Author.Tests.{ne-eqb, eqb-true, eqb-false}
 use lib.Dec.{eqb}
 use lib.ListN.{length, getD, drop, length-append}
-use lib.Seq.{getD-append-seam, getD-append-add, getD-drop, drop-append-add, drop-drop, append-snoc}
+use lib.Seq.{getD-append-seam, getD-append-add, drop-append-add, append-snoc}
 use Rattle.tally.proofs.Test.{by-test, no}
-use Rattle.form.specs.declared.Number.{Number}
 use Rattle.form.specs.declared.Levels.{Levels}
-use Rattle.form.specs.declared.Header.{Header}
 use Rattle.form.specs.Decimal.{decimal}
-use Rattle.form.specs.Text.{more, levelsText, magic, maximum, header}
-use Rattle.form.specs.Reader.{isDigit, number, numberOf, begins, lined, noLevels, levelsFrom, levelsOf, noHeader, heightOf, widthOf, headerOf}
+use Rattle.form.specs.Text.{more, levelsText}
+use Rattle.form.specs.Reader.{number, numberOf, lined, levelsFrom, levelsOf}
 use Rattle.form.proofs.Decimal.{decimal-head}
 use Rattle.form.proofs.Numbers.{number-sound, number-complete}
-use Rattle.form.proofs.Prefix.{prefix-sound, prefix-complete}
-use Rattle.form.proofs.Line.{inside-of, from-none, from-last, from-more, from-bad}
+use Rattle.form.proofs.Line.{from-none, from-last, from-more, from-bad}
 
 abbrev pub Small : List ℕ → Type 0
 Small ks = (i : ℕ) → i < length ks → getD ks i 0 ≤ 255

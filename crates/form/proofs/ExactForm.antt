@@ -5,8 +5,8 @@
 --   `form-levels`, `form-samples` the levels and samples are the text's.
 use mathlib.Core.Path.{_≡_, refl, sym, ap, _∙_}
 use mathlib.Core.Bool.{Bool, true, false, cond}
-use mathlib.Core.List.{List, [], _∷_, _++_, append-assoc}
-use Prim.Native.Nat.{ℕ, _+_, _-_, _*_, _≤_, _<_}
+use mathlib.Core.List.{List, _++_}
+use Prim.Native.Nat.{ℕ, _+_, _-_, _*_, _≤_}
 use native.Mathlib.Omega.{arith}
 use borrow.Author.Tests.{leb-true, leb-false, eqb-true, eqb-false}
 use lib.Dec.{eqb, leb}
@@ -15,7 +15,6 @@ use lib.Seq.{take-append-seam, drop-append-seam, drop-append-add}
 use Rattle.tally.proofs.Test.{by-test, no}
 use Rattle.form.specs.declared.Form.{Form}
 use Rattle.form.specs.declared.Levels.{Levels}
-use Rattle.form.specs.declared.Header.{Header}
 use Rattle.form.specs.Text.{levelsText, header, formText, Fits, formWith, noForm}
 use Rattle.form.specs.Reader.{lined, levelsOf, headerOf, samplesOf, formOf}
 use Rattle.form.proofs.Whole.{form-none, to-samples, samples-none, samples-many, samples-else, samples-done}

@@ -2,16 +2,15 @@
 -- Definitions: `Head` a list begins with a header.
 -- Main laws: `header-sound` what is read is a header; `header-complete` every header is read.
 use mathlib.Core.Path.{_≡_, refl, sym, ap, _∙_}
-use mathlib.Core.Bool.{Bool, true, false}
-use mathlib.Core.List.{List, [], _∷_, _++_, append-assoc}
-use Prim.Native.Nat.{ℕ, _+_, _≤_, _<_}
+use mathlib.Core.Bool.{Bool, true}
+use mathlib.Core.List.{List, _∷_, _++_, append-assoc}
+use Prim.Native.Nat.{ℕ, _+_, _≤_}
 use native.Mathlib.Omega.{arith}
 use borrow.Author.Tests.{eqb-true, eqb-false}
 use lib.Dec.{eqb}
 use lib.ListN.{length, getD, drop, length-append}
-use lib.Seq.{getD-drop, drop-append-add, drop-append-seam, drop-drop}
+use lib.Seq.{getD-drop, drop-append-seam, drop-drop}
 use Rattle.tally.proofs.Test.{by-test, no}
-use Rattle.form.specs.declared.Number.{Number}
 use Rattle.form.specs.declared.Header.{Header}
 use Rattle.form.specs.Decimal.{decimal}
 use Rattle.form.specs.Text.{magic, maximum, header}

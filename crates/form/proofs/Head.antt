@@ -1,20 +1,19 @@
 -- Reading the header, part by part. Assumes nothing.
 -- Main laws: `to-width`, `to-height`, `to-header` the reader's way through a header; `width-none`, `width-bad`, `height-none`, `height-bad` where it leaves it; `head-plain`, `head-width`,
 --   `head-space`, `head-height`, `head-end`, `head-done` what each return of the code hands over.
-use mathlib.Core.Path.{_≡_, refl, sym, ap, _∙_}
-use mathlib.Core.Bool.{Bool, true, false, cond}
-use mathlib.Core.List.{List, [], _∷_, _++_}
-use Prim.Native.Nat.{ℕ, _+_, _-_, _≤_, _<_}
+use mathlib.Core.Path.{_≡_, sym, ap, _∙_}
+use mathlib.Core.Bool.{Bool, true, false}
+use mathlib.Core.List.{List}
+use Prim.Native.Nat.{ℕ, _+_, _-_, _≤_}
 use native.Mathlib.Omega.{arith}
 use borrow.Author.Tests.{eq-eqb, ne-eqb}
-use lib.Dec.{eqb}
 use lib.ListN.{length, getD, take, drop, length-drop}
 use Rattle.form.specs.declared.Number.{Number}
 use Rattle.form.specs.declared.Header.{Header}
 use Rattle.form.specs.Text.{magic, maximum}
 use Rattle.form.specs.Reader.{begins, numberOf, noHeader, heightOf, widthOf, headerOf}
 use Rattle.form.proofs.Prefix.{prefix-inside}
-use Rattle.form.proofs.Line.{part-end, inside-of}
+use Rattle.form.proofs.Line.{part-end}
 
 module _ (s : List ℕ) where
   pub head-none : begins magic s ≡ false → headerOf s ≡ noHeader

@@ -3,14 +3,14 @@
 -- Main laws: `from-none`, `from-last`, `from-more`, `from-bad` the reader's cases; `line-empty`, `line-begin`, `line-none`, `line-last`, `line-bad`, `line-more`, `line-full` the steps; `part-end` the
 --   rest of a slice as a list; `part-inside` what is inside it is inside the slice; `inside-of` a byte that is not 0 is inside.
 use mathlib.Core.Path.{_≡_, refl, sym, ap, _∙_}
-use mathlib.Core.Bool.{Bool, true, false, cond}
+use mathlib.Core.Bool.{true, false}
 use mathlib.Core.List.{List, [], _∷_, _++_}
-use Prim.Native.Nat.{ℕ, zero, suc, _+_, _-_, _≤_, _<_}
+use Prim.Native.Nat.{ℕ, suc, _+_, _-_, _≤_, _<_}
 use native.Mathlib.Nat.{add-assoc}
 use native.Mathlib.Numerals.{add-one}
 use native.Mathlib.Omega.{arith}
 use borrow.Author.Tests.{ltb-true, ltb-false, eq-eqb, ne-eqb}
-use lib.Dec.{eqb, ltb}
+use lib.Dec.{ltb}
 use lib.ListN.{length, getD, take, drop, set, replicate, length-append, length-drop, length-set, List·getD-eq-default, take-append-drop}
 use lib.Seq.{take-all, getD-drop, drop-drop, take-suc-set, drop-set-lt, length-take-le}
 use Rattle.tally.proofs.Test.{by-test}

@@ -1,21 +1,19 @@
 -- How long input of the form is: at most 17,419 bytes, so that one byte more decides. Assumes nothing.
 -- Main laws: `decimal-least` a number has no more digits than its size allows; `sides-digits` two sides of at most 16,384 samples have at most 6; `levels-longest`, `header-longest`, `form-longest`;
 --   `form-cut` nothing past the 17,420th byte matters.
-use mathlib.Core.Path.{_≡_, refl, sym, ap, _∙_}
-use mathlib.Core.Bool.{Bool, true, false}
-use mathlib.Core.List.{List, [], _∷_, _++_}
+use mathlib.Core.Path.{_≡_, sym, ap, _∙_}
+use mathlib.Core.List.{List, [], _∷_}
 use Prim.Native.Nat.{ℕ, zero, suc, _+_, _-_, _*_, _/_, _%_, _^_, _≤_, _<_}
 use native.Mathlib.Nat.{pow-suc, pow-le-pow-right, mul-le-mul, mul-zero, zero-mul}
 use native.Mathlib.Omega.{arith}
 use borrow.Author.Tests.{ltb-true, ltb-false}
 use lib.Dec.{ltb}
-use lib.ListN.{length, getD, take, length-append}
+use lib.ListN.{length, take, length-append}
 use lib.Pow.{pow-add}
 use lib.Seq.{take-all, length-take-le}
 use Rattle.tally.proofs.Test.{by-test}
-use Rattle.form.specs.declared.Form.{Form}
 use Rattle.form.specs.Decimal.{decimal}
-use Rattle.form.specs.Text.{more, levelsText, maximum, header, formText, Fits, noForm}
+use Rattle.form.specs.Text.{more, levelsText, header, formText, Fits, noForm}
 use Rattle.form.specs.Reader.{formOf}
 use Rattle.form.proofs.Decimal.{by-digits, decimal-small, decimal-more, decimal-some, decimal-length}
 use Rattle.form.proofs.Exact.{Small}

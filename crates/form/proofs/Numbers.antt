@@ -3,15 +3,15 @@
 -- Main laws: `read-begin`, `read-stop`, `read-over`, `read-more` the steps; `number-sound` what is read is a number in decimal; `number-complete` every number in decimal is read; `number-inside` it
 --   is no longer than the list.
 use mathlib.Core.Path.{_≡_, refl, sym, ap, _∙_}
-use mathlib.Core.Bool.{Bool, true, false, _&&_, cond}
-use mathlib.Core.List.{List, [], _∷_, _++_, append-assoc}
+use mathlib.Core.Bool.{true, false}
+use mathlib.Core.List.{List, [], _∷_, _++_}
 use Prim.Native.Nat.{ℕ, zero, suc, _+_, _-_, _*_, _/_, _%_, _≤_, _<_}
 use native.Mathlib.Nat.{add-zero}
 use native.Mathlib.Numerals.{add-one}
 use native.Mathlib.Omega.{arith}
 use borrow.Author.Tests.{le-leb, lt-leb, leb-true, leb-false, eqb-true, eqb-false, eq-eqb, ne-eqb}
 use lib.Dec.{eqb, leb}
-use lib.ListN.{length, getD, drop, length-append, List·getD-eq-default, List·getD-append}
+use lib.ListN.{length, getD, drop, length-append, List·getD-eq-default}
 use lib.Seq.{drop-cons, getD-drop, append-snoc}
 use Rattle.tally.proofs.Test.{by-test, no, and-1, and-2, both}
 use Rattle.form.specs.declared.Number.{Number}

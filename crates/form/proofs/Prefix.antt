@@ -1,10 +1,10 @@
 -- A list that begins with another. Assumes nothing.
 -- Main laws: `prefix-more`, `prefix-differs`, `prefix-short`, `prefix-end` byte by byte; `prefix-sound` what it means; `prefix-complete` when it holds; `prefix-inside` the one is no longer than the
 --   other.
-use mathlib.Core.Path.{_≡_, refl, sym, ap, _∙_}
-use mathlib.Core.Bool.{Bool, true, false}
+use mathlib.Core.Path.{_≡_, refl, ap}
+use mathlib.Core.Bool.{true, false}
 use mathlib.Core.List.{List, [], _∷_, _++_}
-use Prim.Native.Nat.{ℕ, zero, suc, _+_, _≤_, _<_}
+use Prim.Native.Nat.{ℕ, _+_, _≤_, _<_}
 use native.Mathlib.Numerals.{add-one}
 use native.Mathlib.Omega.{arith}
 use borrow.Author.Tests.{eqb-true, eq-eqb, ne-eqb}

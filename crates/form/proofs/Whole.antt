@@ -1,8 +1,8 @@
 -- Reading the whole input, part by part. Assumes nothing.
 -- Main laws: `to-samples` from the levels and the header to the samples; `samples-none`, `samples-many`, `samples-else`, `samples-done` its cases; `whole-none`, `whole-header`, `whole-many`,
 --   `whole-else`, `whole-done` what each return of the code hands over.
-use mathlib.Core.Path.{_≡_, refl, sym, ap, _∙_}
-use mathlib.Core.Bool.{Bool, true, false, cond}
+use mathlib.Core.Path.{_≡_, sym, ap, _∙_}
+use mathlib.Core.Bool.{true, false}
 use mathlib.Core.List.{List}
 use Prim.Native.Nat.{ℕ, _+_, _-_, _*_, _≤_, _<_}
 use borrow.Author.Tests.{le-leb, lt-leb, eq-eqb, ne-eqb}

@@ -1,6 +1,6 @@
 // Reads the listing program's input: a line of levels, the header of a PGM, the samples.
 ghost use mathlib.Core.Path.{_≡_};
-ghost use Prim.Native.Nat.{ℕ, _+_, _*_, _≤_, _<_};
+ghost use Prim.Native.Nat.{_+_, _*_, _≤_, _<_};
 ghost use lib.ListN.{length, getD};
 ghost use Rattle.form.specs.Text.{noForm};
 ghost use Rattle.form.specs.Reader.{numberOf, stop, begins, noLevels, levelsOf, noHeader, headerOf, formOf};
@@ -115,6 +115,7 @@ fn begins(s: &[u8], t: &[u8]) -> bool
     true
 }
 
+// No line of levels.
 fn no_levels() -> Levels
     ensures { λ r. ⌜ r ≡ noLevels ⌝ }
 {
@@ -166,6 +167,7 @@ fn read_levels(s: &[u8]) -> Levels
     no_levels()
 }
 
+// No header.
 fn no_header() -> Header
     ensures { λ r. ⌜ r ≡ noHeader ⌝ }
 {
@@ -209,6 +211,7 @@ fn read_header(s: &[u8]) -> Header
     }
 }
 
+// Not of the form.
 fn no_form() -> Form
     ensures { λ r. ⌜ r ≡ noForm ⌝ }
 {

@@ -1,8 +1,8 @@
 -- The text to print, from what the tree call hands back. Assumes nothing.
 -- Main laws: `call-refused` the text of a refused call; `call-sides` a call that is done has sides that fit; `call-words`, `call-entries` the list and the tree in lent memory, `words-inside`,
 --   `entries-inside` inside of it; `call-text`, `call-room` the text of a call that is done, and room for it; `not-of-form`, `of-form` the two cases of an input.
-use mathlib.Core.Path.{_≡_, refl, sym, ap, _∙_}
-use mathlib.Core.Bool.{Bool, true, false, cond}
+use mathlib.Core.Path.{_≡_, sym, ap, _∙_}
+use mathlib.Core.Bool.{true, false}
 use mathlib.Core.List.{List, _++_}
 use Prim.Native.Nat.{ℕ, _+_, _-_, _≤_, _<_}
 use native.Mathlib.Omega.{arith}
@@ -20,20 +20,19 @@ use Rattle.matte.specs.Picture.{Picture, picture, at}
 use Rattle.matte.proofs.Rows.{done-answer, refused-answer, done-after}
 use Rattle.edgel.specs.Word.{flagged}
 use Rattle.refuse.specs.Shape.{Sides}
-use Rattle.count.proofs.Flat.{border-of}
-use Rattle.trace.proofs.All.{eight-fits}
+use Rattle.trace.proofs.Refusals.{Sound}
 use Rattle.outline.specs.List.{listed}
 use Rattle.enclosure.specs.Tree.{entry, entries, lineCount}
 use Rattle.enclosure.specs.Call.{treeVerdict, treeAnswer, treeWords, treeEntries}
 use Rattle.enclosure.proofs.Lines.{Setting}
-use Rattle.enclosure.proofs.Numbers.{count-flags, lines-within}
+use Rattle.enclosure.proofs.Numbers.{count-flags}
 use Rattle.form.specs.declared.Form.{Form}
 use Rattle.form.specs.Reader.{formOf}
 use Rattle.form.proofs.Line.{part-end}
 use Rattle.text.specs.Listing.{firstText, wordsText, listingText, refusedText, notFormText}
-use Rattle.text.proofs.Bounds.{Sized, listing-length}
-use Rattle.listing.specs.Printed.{callVerdict, answered, askedOf, levelsOf, printed}
-use Rattle.listing.proofs.Call.{same-verdict, Sound, sound}
+use Rattle.text.proofs.Bounds.{listing-length}
+use Rattle.listing.specs.Printed.{callVerdict, answered, printed}
+use Rattle.listing.proofs.Call.{same-verdict, ground-of, setting-for}
 
 module _ (P : Picture) (ks work words places : List ℕ) (x : length work ≡ 16384) (y : length words ≡ 16384) (z : length places ≡ 8192)
     (a : Answer) (ea : a ≡ treeAnswer eight P ks work words places) where
@@ -59,12 +58,13 @@ module _ (P : Picture) (ks work words places : List ℕ) (x : length work ≡ 16
     unfolding told
     zero-is = ap (λ (v : Verdict). v .number) (same-verdict P ks work words places x y z) ∙ sym number-is ∙ e
 
-    S : Sound P ks work words places
+    S : Sound eight P ks work words
     unfolding told
-    S = sound P ks work words places zero-is
+    S = ground-of P ks work words places zero-is
 
     T : Setting eight P ks
-    T = record { fits = eight-fits P (S .ground); border = border-of P (S .ground); levels = S .levels }
+    unfolding told
+    T = setting-for P ks work words places zero-is
 
     pub call-sides : Sides (P .w) (P .h)
     call-sides = S .ground .sides

@@ -1,3 +1,5 @@
 pub mod Call
 pub mod Answered
 pub mod Room
+pub mod Told
+pub mod Page

@@ -1,9 +1,7 @@
 -- How long the printed text is: a row of a crossing at most 24 bytes, any other row at most 40. Assumes nothing.
 -- Definitions: `Sized` sides that fit, samples that are bytes, at most 255 levels and 16,384 words.
 -- Main laws: `field-length`, `row-length`, `crossing-length`, `line-length`, `first-length` of the rows; `words-length` at most 64 bytes a word; `listing-length` at most 1,048,616 bytes in all.
-use mathlib.Core.Path.{_≡_, refl, sym, ap, _∙_}
-use mathlib.Core.Bool.{Bool, true, false, cond}
-use mathlib.Core.List.{List, [], _∷_, _++_}
+use mathlib.Core.List.{List, [], _∷_}
 use Prim.Native.Nat.{ℕ, suc, _+_, _*_, _/_, _%_, _^_, _≤_, _<_}
 use native.Mathlib.Nat.{mod-lt, div-le-self}
 use native.Mathlib.Omega.{arith}
@@ -19,8 +17,7 @@ use Rattle.edgel.specs.Word.{codeOf, levelOf, flagged}
 use Rattle.crossing.specs.Crossing.{num, den}
 use Rattle.form.specs.Decimal.{decimal}
 use Rattle.form.proofs.Decimal.{decimal-length}
-use Rattle.text.specs.Listing.{field, letter, rowText, crossingText, firstText, lineText, wordText, startText, wordsText, listingText}
-use Rattle.text.proofs.Rows.{start-none}
+use Rattle.text.specs.Listing.{field, letter, rowText, crossingText, firstText, lineText, startText, wordsText, listingText}
 
 pub field-length : (k n b : ℕ) → n < 10 ^ suc k → length (field n b) ≤ suc (suc k)
 unfolding field

@@ -5,7 +5,7 @@ use edgel::level_of;
 use form::byte_at;
 ghost use mathlib.Core.Path.{_≡_};
 ghost use mathlib.Core.List.{[], _∷_, _++_};
-ghost use Prim.Native.Nat.{ℕ, _+_, _*_, _≤_, _<_};
+ghost use Prim.Native.Nat.{_+_, _*_, _≤_, _<_};
 ghost use lib.ListN.{length, getD};
 ghost use Rattle.tally.specs.Tally.{one, apart, firstAt};
 ghost use Rattle.matte.specs.Layout.{eight};

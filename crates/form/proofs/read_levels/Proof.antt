@@ -1,9 +1,8 @@
 -- `form::read_levels` meets its contract: the levels passed stand in the array, zeros after them. Assumes nothing.
-use mathlib.Core.Path.{_≡_, refl, sym, _∙_}
-use Prim.Native.Nat.{_≤_, _-_}
+use mathlib.Core.Path.{sym, _∙_}
+use Prim.Native.Nat.{_-_}
 use native.Mathlib.Omega.{arith}
 use borrow.Author.Tests.{not-true, not-false}
-use lib.ListN.{length}
 use Rattle.form.proofs.Line.{Lining, line-empty, line-begin, line-none, line-last, line-bad, line-more, line-full}
 use borrow.Author.Needs.{needs}
 use Rattle.form.proofs.read_levels.Statement.{statement}

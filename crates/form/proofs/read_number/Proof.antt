@@ -1,6 +1,6 @@
 -- `form::read_number` meets its contract: the digits passed make the value so far. Assumes nothing.
-use mathlib.Core.Path.{_≡_, refl, sym, _∙_}
-use Prim.Native.Nat.{_≤_, _-_}
+use mathlib.Core.Path.{_∙_}
+use Prim.Native.Nat.{_-_}
 use native.Mathlib.Omega.{arith}
 use lib.ListN.{length}
 use Rattle.form.proofs.Numbers.{Reading, is-digit, below-digits, above-digits, read-zero, read-begin, read-stop, read-end, read-over, read-more}

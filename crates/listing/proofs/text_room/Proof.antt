@@ -1,6 +1,5 @@
 -- `listing::text_room` meets its contract. Assumes nothing.
 use Rattle.listing.proofs.Room.{zeros}
-use borrow.Author.Needs.{needs}
 use Rattle.listing.proofs.text_room.Statement.{statement}
 use Rattle.listing.proofs.text_room.Tie as tie
 

@@ -2,7 +2,6 @@
 use mathlib.Core.Path.{ap}
 use native.Mathlib.Omega.{arith}
 use lib.ListN.{length}
-use Rattle.form.specs.Decimal.{decimal}
 use Rattle.form.proofs.Decimal.{decimal-small}
 use Rattle.text.proofs.Puts.{digit-last, digit-room, digit-more}
 use borrow.Author.Needs.{needs}

@@ -1,5 +1,4 @@
 -- `text::put_byte` meets its contract. Assumes nothing.
-use native.Mathlib.Omega.{arith}
 use Rattle.text.proofs.Puts.{put-byte}
 use borrow.Author.Needs.{needs}
 use Rattle.text.proofs.put_byte.Statement.{statement}

@@ -1,6 +1,5 @@
 -- `text::put_word` meets its contract: the row's numbers are the crossing's. Assumes nothing.
 use mathlib.Core.Path.{sym}
-use native.Mathlib.Omega.{arith}
 use Rattle.text.proofs.Puts.{put-as}
 use Rattle.text.proofs.Rows.{word-row}
 use borrow.Author.Needs.{needs}

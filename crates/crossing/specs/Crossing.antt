@@ -1,5 +1,5 @@
 -- One crossing: its exact fraction, its point as floats, and the call. Assumes nothing.
--- Definitions: `num`, `den` the fraction of the way; `along` a coordinate moved by it; `crossingVerdict`, `crossingAnswer` the call.
+-- Definitions: `num`, `den` the fraction of the way; `along` a coordinate moved by it; `crossingRows`, `crossingVerdict`, `crossingAnswer` the call.
 use mathlib.Core.Bool.{Bool, true, false, not, cond}
 use mathlib.Core.List.{List, [], _∷_}
 use Prim.Native.Nat.{ℕ, _+_, _*_, _/_, _%_}
@@ -9,7 +9,7 @@ use Rattle.tally.specs.Tally.{apart}
 use Rattle.matte.specs.declared.Verdict.{Verdict}
 use Rattle.matte.specs.Layout.{Layout}
 use Rattle.matte.specs.Picture.{Picture, at, high}
-use Rattle.matte.specs.Refusal.{verdict, row, answer, afterwards, sidesRow, samplesRow, levelsRow}
+use Rattle.matte.specs.Refusal.{Row, verdict, row, answer, afterwards, sidesRow, samplesRow, levelsRow}
 use Rattle.edgel.specs.Heading.{number}
 use Rattle.edgel.specs.Edgel.{horizontal, first, second, column, crossed, headingAt}
 use Rattle.edgel.specs.Edgel as Edgel
@@ -42,15 +42,17 @@ module _ (P : Picture) (k c : ℕ) where
 
   module _ (L : Layout) where
     -- 1 2 3 8 10 (01, Numbers for a refused call)
-    abbrev pub crossingVerdict : Verdict
-    crossingVerdict =
-        verdict
-        (sidesRow (P .w) (P .h)
+    abbrev pub crossingRows : List Row
+    crossingRows =
+        sidesRow (P .w) (P .h)
         ∷ samplesRow P
         ∷ levelsRow L (k ∷ [])
         ∷ codeRow (P .w) (P .h) c
         ∷ row 10 (not (crossed (high P k) (P .w) c))
-        ∷ [])
+        ∷ []
+
+    abbrev pub crossingVerdict : Verdict
+    crossingVerdict = verdict crossingRows
 
     -- refused, every further number is 0 (01, Numbers for a refused call)
     abbrev pub crossingAnswer : Crossing

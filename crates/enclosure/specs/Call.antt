@@ -1,6 +1,6 @@
 -- The tree call. Assumes nothing.
--- Definitions: `heads` the horizontal crossings of a level, `half` half of those of all levels; `treeVerdict`, `treeAnswer`, `treeWork`, `treeWords`, `treeEntries` the call: its refusal, its answer, the work
---   bytes, the word places and the tree places afterwards.
+-- Definitions: `heads` the horizontal crossings of a level, `half` half of those of all levels; `treeRows`, `treeVerdict`, `treeAnswer`, `treeWork`, `treeWords`, `treeEntries` the call: its refusals by their
+--   order, the one given, its answer, the work bytes, the word places and the tree places afterwards.
 use mathlib.Core.List.{List, [], _∷_, _++_}
 use Prim.Native.Nat.{ℕ, _+_, _*_, _/_}
 use lib.Dec.{ltb}
@@ -10,7 +10,7 @@ use Rattle.matte.specs.declared.Answer.{Answer}
 use Rattle.matte.specs.declared.Verdict.{Verdict}
 use Rattle.matte.specs.Layout.{Layout}
 use Rattle.matte.specs.Picture.{Picture, size}
-use Rattle.matte.specs.Refusal.{verdict, rowAt, answer, afterwards, sidesRow, samplesRow, levelsRow, borderRow, workRow, wordsRow}
+use Rattle.matte.specs.Refusal.{Row, verdict, rowAt, answer, afterwards, sidesRow, samplesRow, levelsRow, borderRow, workRow, wordsRow}
 use Rattle.edgel.specs.Word.{flagged}
 use Rattle.outline.specs.Line.{cutAt}
 use Rattle.outline.specs.List.{listed}
@@ -25,17 +25,19 @@ half P ks = total (heads P) ks / 2
 
 module _ (L : Layout) (P : Picture) (ks work out tree : List ℕ) where
   -- 1 2 3 4 5 6, then 7: fewer tree places than half the horizontal crossings of all levels (01, Numbers for a refused call)
-  abbrev pub treeVerdict : Verdict
-  treeVerdict =
-      verdict
-      (sidesRow (P .w) (P .h)
+  abbrev pub treeRows : List Row
+  treeRows =
+      sidesRow (P .w) (P .h)
       ∷ samplesRow P
       ∷ levelsRow L ks
       ∷ borderRow P
       ∷ workRow P work
       ∷ wordsRow out (length (listed L P ks))
       ∷ rowAt 7 (ltb (length tree) (half P ks)) (half P ks)
-      ∷ [])
+      ∷ []
+
+  abbrev pub treeVerdict : Verdict
+  treeVerdict = verdict treeRows
 
   abbrev pub treeAnswer : Answer
   treeAnswer = answer treeVerdict (length (listed L P ks)) (tally (flagged L) (listed L P ks))

@@ -1,5 +1,5 @@
 -- Framing: the border set to its lower median. Assumes nothing.
--- Definitions: `borderSamples` the samples on the border; `median` the lower median of a list; `framed` the picture with that border; `frameVerdict`, `frameAnswer`, `frameRoom` the call.
+-- Definitions: `borderSamples` the samples on the border; `median` the lower median of a list; `framed` the picture with that border; `frameRows`, `frameVerdict`, `frameAnswer`, `frameRoom` the call.
 use mathlib.Core.Bool.{Bool, cond}
 use mathlib.Core.List.{List, [], _∷_, _++_}
 use Prim.Native.Nat.{ℕ, suc, _+_, _*_}
@@ -10,7 +10,7 @@ use Rattle.matte.specs.declared.Answer.{Answer}
 use Rattle.matte.specs.declared.Verdict.{Verdict}
 use Rattle.matte.specs.Layout.{Layout}
 use Rattle.matte.specs.Picture.{Picture, size, at, onBorder}
-use Rattle.matte.specs.Refusal.{verdict, answer, afterwards, sidesRow, samplesRow, roomRow}
+use Rattle.matte.specs.Refusal.{Row, verdict, answer, afterwards, sidesRow, samplesRow, roomRow}
 
 -- the samples on the border, each once, row by row (01, Framing)
 unfoldable pub borderSamples : Picture → List ℕ
@@ -27,8 +27,11 @@ module _ (L : Layout) (P : Picture) where
 
   module _ (room : List ℕ) where
     -- 1 2 9 (01, Numbers for a refused call)
+    abbrev pub frameRows : List Row
+    frameRows = sidesRow (P .w) (P .h) ∷ samplesRow P ∷ roomRow (P .w) (P .h) room ∷ []
+
     abbrev pub frameVerdict : Verdict
-    frameVerdict = verdict (sidesRow (P .w) (P .h) ∷ samplesRow P ∷ roomRow (P .w) (P .h) room ∷ [])
+    frameVerdict = verdict frameRows
 
     abbrev pub frameAnswer : Answer
     frameAnswer = answer frameVerdict 0 0

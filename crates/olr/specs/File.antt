@@ -1,6 +1,6 @@
 -- The outline file as it is written, and the writing call. Assumes nothing.
 -- Definitions: `limit` the most words; `letters`, `header` block 0's payload; `wordBytes` the bytes of words; `blocksFor` how many word blocks there are; `wordBlocks` they; `file` the whole;
---   `writeVerdict`, `writeAnswer`, `writeRoom` the call.
+--   `writeRows`, `writeVerdict`, `writeAnswer`, `writeRoom` the call.
 use mathlib.Core.List.{List, [], _∷_, _++_}
 use Prim.Native.Nat.{ℕ, zero, suc, _+_, _*_, _/_}
 use lib.Dec.{ltb}
@@ -46,15 +46,17 @@ module _ (w h v : ℕ) (ks ws : List ℕ) where
 
   module _ (room : List ℕ) where
     -- 1 3 16 8 15 (01, Numbers for a refused call)
-    abbrev pub writeVerdict : Verdict
-    writeVerdict =
-        verdict
-        (sidesRow w h
+    abbrev pub writeRows : List Row
+    writeRows =
+        sidesRow w h
         ∷ levelsRow eight ks
         ∷ row 16 (ltb limit (length ws))
         ∷ wordsFitRow eight w h ks ws
         ∷ rowAt 15 (ltb (length room) fileLength) fileLength
-        ∷ [])
+        ∷ []
+
+    abbrev pub writeVerdict : Verdict
+    writeVerdict = verdict writeRows
 
     abbrev pub writeAnswer : Answer
     writeAnswer = answer writeVerdict 0 0

@@ -1,6 +1,6 @@
 -- The outline file as it is read, and the reading call. Assumes nothing.
 -- Definitions: `blocks`, `payload`, `checkFits` the blocks of a file; `fileWidth`, `fileHeight`, `fileBorder`, `fileCount`, `fileWordCount`, `fileLevels`, `fileWords` what it says; `zeros` bytes due to be zero
---   are; `afterLevels`, `afterWords` which those are; `laidOut` it keeps the layout; `readVerdict`, `readAnswer`, `readWords` the call.
+--   are; `afterLevels`, `afterWords` which those are; `laidOut` it keeps the layout; `readRows`, `readVerdict`, `readAnswer`, `readWords` the call.
 use mathlib.Core.Bool.{Bool, not, _&&_, _||_, cond}
 use mathlib.Core.List.{List, [], _∷_, _++_}
 use Prim.Native.Nat.{ℕ, _+_, _-_, _*_, _/_, _%_}
@@ -76,16 +76,18 @@ module _ (f : List ℕ) where
 
   module _ (out : List ℕ) where
     -- 12 13 14 8 6 (01, Numbers for a refused call)
-    abbrev pub readVerdict : Verdict
-    readVerdict =
+    abbrev pub readRows : List Row
+    readRows =
         let bad = firstFrom (λ i. not (checkFits i)) 0 blocks in
-        verdict
-        (row 12 (eqb (length f) 0 || not (eqb (length f % 512) 0))
+        row 12 (eqb (length f) 0 || not (eqb (length f % 512) 0))
         ∷ rowAt 13 (ltb bad blocks) bad
         ∷ row 14 (not laidOut)
         ∷ wordsFitRow eight fileWidth fileHeight fileLevels fileWords
         ∷ wordsRow out fileWordCount
-        ∷ [])
+        ∷ []
+
+    abbrev pub readVerdict : Verdict
+    readVerdict = verdict readRows
 
     -- done: sides, border, levels, the words and the flags among them; refused: all 0 (01, Outline file; Numbers for a refused call)
     abbrev pub readAnswer : Stored

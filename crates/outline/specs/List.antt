@@ -1,6 +1,6 @@
 -- The whole list as words, and the list call. Assumes nothing.
--- Definitions: `encode` a line as words, its first flagged; `levelWords` the lines of a level; `listed` all levels; `listVerdict`, `listAnswer`, `listWork`, `listWords` the call: its refusal, its
---   answer, the work bytes and the word places afterwards.
+-- Definitions: `encode` a line as words, its first flagged; `levelWords` the lines of a level; `listed` all levels; `listRows`, `listVerdict`, `listAnswer`, `listWork`, `listWords` the call: its
+--   refusals by their order, the one given, its answer, the work bytes and the word places afterwards.
 use mathlib.Core.Bool.{Bool, true, false}
 use mathlib.Core.List.{List, [], _∷_, _++_}
 use Prim.Native.Nat.{ℕ, _+_}
@@ -10,7 +10,7 @@ use Rattle.matte.specs.declared.Answer.{Answer}
 use Rattle.matte.specs.declared.Verdict.{Verdict}
 use Rattle.matte.specs.Layout.{Layout}
 use Rattle.matte.specs.Picture.{Picture, size}
-use Rattle.matte.specs.Refusal.{verdict, answer, afterwards, sidesRow, samplesRow, levelsRow, borderRow, workRow, wordsRow}
+use Rattle.matte.specs.Refusal.{Row, verdict, answer, afterwards, sidesRow, samplesRow, levelsRow, borderRow, workRow, wordsRow}
 use Rattle.edgel.specs.Word.{word, flagged}
 use Rattle.outline.specs.Line.{lines}
 
@@ -33,16 +33,18 @@ module _ (L : Layout) where
 
     module _ (ks work out : List ℕ) where
       -- 1 2 3 4 5 6 (01, Numbers for a refused call)
-      abbrev pub listVerdict : Verdict
-      listVerdict =
-          verdict
-          (sidesRow (P .w) (P .h)
+      abbrev pub listRows : List Row
+      listRows =
+          sidesRow (P .w) (P .h)
           ∷ samplesRow P
           ∷ levelsRow L ks
           ∷ borderRow P
           ∷ workRow P work
           ∷ wordsRow out (length (listed ks))
-          ∷ [])
+          ∷ []
+
+      abbrev pub listVerdict : Verdict
+      listVerdict = verdict listRows
 
       -- the words handed over and the flags among them (01, Numbers for a refused call)
       abbrev pub listAnswer : Answer

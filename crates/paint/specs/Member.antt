@@ -1,5 +1,5 @@
 -- Membership of a sample in a line. Assumes nothing.
--- Definitions: `inside` a sample is inside a line of words; `memberVerdict`, `memberAnswer` the call.
+-- Definitions: `inside` a sample is inside a line of words; `memberRows`, `memberVerdict`, `memberAnswer` the call.
 use mathlib.Core.Bool.{Bool, true, false, not, _&&_}
 use mathlib.Core.List.{List, [], _∷_}
 use Prim.Native.Nat.{ℕ}
@@ -8,7 +8,7 @@ use lib.ListN.{length}
 use Rattle.tally.specs.Tally.{odd, tally}
 use Rattle.matte.specs.declared.Verdict.{Verdict}
 use Rattle.matte.specs.Layout.{Layout}
-use Rattle.matte.specs.Refusal.{verdict, row, answer, afterwards, sidesRow}
+use Rattle.matte.specs.Refusal.{Row, verdict, row, answer, afterwards, sidesRow}
 use Rattle.edgel.specs.Word.{codeOf, codesRow}
 use Rattle.edgel.specs.Beside.{westOf}
 use Rattle.paint.specs.declared.Membership.{Membership}
@@ -25,8 +25,11 @@ module _ (L : Layout) (w : ℕ) where
     named = ltb 0 (length (part L n ws)) && (ltb x w && ltb y h)
 
     -- 1 8 11, codes only (01, Numbers for a refused call)
+    abbrev pub memberRows : List Row
+    memberRows = sidesRow w h ∷ codesRow L w h ws ∷ row 11 (not named) ∷ []
+
     abbrev pub memberVerdict : Verdict
-    memberVerdict = verdict (sidesRow w h ∷ codesRow L w h ws ∷ row 11 (not named) ∷ [])
+    memberVerdict = verdict memberRows
 
     abbrev pub memberAnswer : Membership
     memberAnswer = record { answer = answer memberVerdict 0 0; inside = afterwards memberVerdict false (inside (part L n ws) x y) }

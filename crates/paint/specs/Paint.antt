@@ -1,5 +1,5 @@
 -- Painting words back, and the stepped picture. Assumes nothing.
--- Definitions: `turns` a word turns a sample over at a level; `painted` a painted sample, `painting` all of them; `stepped` what a sample is stepped to; `paintVerdict`, `paintAnswer`, `paintRoom` the call.
+-- Definitions: `turns` a word turns a sample over at a level; `painted` a painted sample, `painting` all of them; `stepped` what a sample is stepped to; `paintRows`, `paintVerdict`, `paintAnswer`, `paintRoom` the call.
 use mathlib.Core.Bool.{Bool, _&&_}
 use mathlib.Core.List.{List, [], _∷_, _++_}
 use Prim.Native.Nat.{ℕ, _*_, _/_, _%_}
@@ -9,7 +9,7 @@ use Rattle.tally.specs.Tally.{odd, differ, tally, build}
 use Rattle.matte.specs.declared.Answer.{Answer}
 use Rattle.matte.specs.declared.Verdict.{Verdict}
 use Rattle.matte.specs.Layout.{Layout}
-use Rattle.matte.specs.Refusal.{verdict, answer, afterwards, sidesRow, levelsRow, roomRow}
+use Rattle.matte.specs.Refusal.{Row, verdict, answer, afterwards, sidesRow, levelsRow, roomRow}
 use Rattle.edgel.specs.Word.{codeOf, levelOf, wordsFitRow}
 use Rattle.edgel.specs.Beside.{westOf}
 
@@ -33,8 +33,11 @@ module _ (L : Layout) (w v : ℕ) (ks ws : List ℕ) where
 
     module _ (room : List ℕ) where
       -- 1 3 8 9 (01, Numbers for a refused call)
+      abbrev pub paintRows : List Row
+      paintRows = sidesRow w h ∷ levelsRow L ks ∷ wordsFitRow L w h ks ws ∷ roomRow w h room ∷ []
+
       abbrev pub paintVerdict : Verdict
-      paintVerdict = verdict (sidesRow w h ∷ levelsRow L ks ∷ wordsFitRow L w h ks ws ∷ roomRow w h room ∷ [])
+      paintVerdict = verdict paintRows
 
       abbrev pub paintAnswer : Answer
       paintAnswer = answer paintVerdict 0 0

@@ -1,10 +1,14 @@
 -- The lines of any word list. Assumes nothing.
--- Definitions: `rest` the words before the next flagged one; `part` line n; `partStart` its place.
+-- Definitions: `rest` the words before the next flagged one; `part` line n; `partStart` its place; `wordOn` the address some words on.
 use mathlib.Core.Bool.{Bool, true, false}
 use mathlib.Core.List.{List, [], _∷_}
-use Prim.Native.Nat.{ℕ, zero, suc, _+_}
+use Prim.Native.Nat.{ℕ, zero, suc, _+_, _*_}
 use Rattle.matte.specs.Layout.{Layout}
 use Rattle.edgel.specs.Word.{flagged}
+
+-- an address is a block and an offset in bytes; a word takes 4
+abbrev pub wordOn : ℕ × ℕ → ℕ → ℕ × ℕ
+wordOn p i = (p .0, p .1 + 4 * i)
 
 module _ (L : Layout) where
   -- up to the next flagged word or the end (01, Framing, membership, painting)

@@ -17,13 +17,14 @@ ghost use mathlib.Core.List.{[], _∷_};
 ghost use Prim.Native.Nat.{_+_, _*_, _≤_, _<_};
 ghost use lib.Dec.{ltb};
 ghost use lib.ListN.{length, take, drop};
+ghost use denote.Ref.{ptr};
 ghost use Rattle.tally.specs.Tally.{one};
 ghost use Rattle.matte.specs.Layout.{eight};
 ghost use Rattle.matte.specs.Picture.{levelsFit};
 ghost use Rattle.matte.specs.Refusal.{row, verdict, sidesRow, levelsRow};
 ghost use Rattle.edgel.specs.Word.{codesRow, wordsFitRow};
 ghost use Rattle.refuse.specs.Shape.{Sides};
-ghost use Rattle.paint.specs.Part.{rest, part, partStart};
+ghost use Rattle.paint.specs.Part.{rest, part, partStart, wordOn};
 ghost use Rattle.paint.specs.Span.{whole, inSpan};
 ghost use Rattle.paint.specs.Member.{inside, memberAnswer};
 ghost use Rattle.paint.specs.Paint.{paintAnswer, paintRoom};
@@ -69,7 +70,7 @@ fn run_of(s: &[u32]) -> usize
 
 // Line n of a word list, a part of that list itself; empty where there is none.
 pub fn line_part(words: &[u32], n: usize) -> &[u32]
-    ensures { λ r. ⌜ now r ≡ part eight n (now (words .entry)) ⌝ }
+    ensures { λ r. ⌜ (now r ≡ part eight n (now (words .entry))) × (ptr r ≡ wordOn (ptr (words .entry)) (partStart eight n (now (words .entry)))) ⌝ }
 {
     let a = start_of(words, n);
     if a < words.len() {

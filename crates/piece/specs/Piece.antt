@@ -1,6 +1,6 @@
 -- The piece of a level line in one cell, and the call. Assumes nothing.
 -- Definitions: `isZero`, `same` tests on whole numbers; `ratio` their quotient as a float, `within` it lies from 0 to 1; `b`, `c`, `d`, `s` of the cell's corners by place; `met` the level meets
---   the saddle; `centre`, `delta`; `pieceOf` which piece it is; `caseNumber`, `caseValues` the paper's number and values of each case; `pieceVerdict`, `pieceAnswer` the call.
+--   the saddle; `centre`, `delta`; `pieceOf` which piece it is; `caseNumber`, `caseValues` the paper's number and values of each case; `pieceRows`, `pieceVerdict`, `pieceAnswer` the call.
 use mathlib.Core.Bool.{Bool, true, false, not, _&&_, _||_, cond}
 use mathlib.Core.List.{List, [], _∷_}
 use Prim.Native.Nat.{ℕ, suc, _+_, _*_}
@@ -10,7 +10,7 @@ use lib.Ieee.{Float, binary64, div, ofInt}
 use Rattle.matte.specs.declared.Verdict.{Verdict}
 use Rattle.matte.specs.Layout.{Layout}
 use Rattle.matte.specs.Picture.{Picture, at, high}
-use Rattle.matte.specs.Refusal.{verdict, row, answer, afterwards, sidesRow, samplesRow, levelsRow}
+use Rattle.matte.specs.Refusal.{Row, verdict, row, answer, afterwards, sidesRow, samplesRow, levelsRow}
 use Rattle.edgel.specs.declared.Heading.the-variants.{South, East, North, West}
 use Rattle.edgel.specs.Edgel.{crossed}
 use Rattle.cell.specs.Turn.{out}
@@ -109,9 +109,11 @@ module _ (P : Picture) (k x y : ℕ) where
 
   module _ (L : Layout) where
     -- 1 2 3 11 10 (01, Numbers for a refused call)
+    abbrev pub pieceRows : List Row
+    pieceRows = sidesRow (P .w) (P .h) ∷ samplesRow P ∷ levelsRow L (k ∷ []) ∷ row 11 (not isCell) ∷ row 10 (not met) ∷ []
+
     abbrev pub pieceVerdict : Verdict
-    pieceVerdict =
-        verdict (sidesRow (P .w) (P .h) ∷ samplesRow P ∷ levelsRow L (k ∷ []) ∷ row 11 (not isCell) ∷ row 10 (not met) ∷ [])
+    pieceVerdict = verdict pieceRows
 
     abbrev pub pieceAnswer : Found
     pieceAnswer =

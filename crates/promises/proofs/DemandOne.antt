@@ -1,6 +1,8 @@
 -- The customer's first demand, of lent memory: a refused call changes none. Assumes nothing.
--- Main laws: `list-kept`, `tree-kept`, `frame-kept`, `paint-kept`, `write-kept`, `read-kept` one for each call that is lent memory to write to. That a call comes to an end without a fault is the proof of its
---   function; which number it gives is `first-decides` and `decided-first` of matte.
+-- Main laws: `list-kept`, `tree-kept`, `frame-kept`, `paint-kept`, `write-kept`, `read-kept` one for each call that is lent memory to write to, so for the calls for C with the same contracts too. The crossing, the piece,
+--   the line part and membership are lent nothing to write to: there is nothing to keep.
+-- That a call comes to an end without a fault, whatever it is handed, is the proof of its function, which has no `requires`. That its contract allows some answer for every input needs no law: each contract says that the
+--   result and the last contents are the values of definitions, and those have a value for every input. That it allows no second one is OneAnswer; which number is given is RefusedExactly.
 use mathlib.Core.Path.{_≡_}
 use mathlib.Core.List.{List}
 use mathlib.Core.Logic.{_≢_}

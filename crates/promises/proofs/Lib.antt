@@ -1,5 +1,8 @@
 pub mod SmallPictures
+pub mod OneAnswer
+pub mod NoNan
 pub mod DemandOne
+pub mod RefusedExactly
 pub mod DemandThree
 pub mod DemandTwoList
 pub mod DemandTwoPaint

@@ -1,13 +1,13 @@
--- `paint::line_part` meets its contract: from the line's first word up to the next flag. Assumes nothing.
+-- `paint::line_part` meets its contract: from the line's first word up to the next flag, in the list itself. Assumes nothing.
 use mathlib.Core.Path.{_≡_, sym, ap, _∙_}
 use mathlib.Core.List.{List}
-use Prim.Native.Nat.{ℕ, _+_, _-_, _<_}
+use Prim.Native.Nat.{ℕ, _+_, _-_, _*_, _<_}
 use native.Mathlib.Omega.{arith}
 use borrow.Author.Needs.{needs}
 use lib.ListN.{length, take, drop, length-drop}
 use lib.Seq.{drop-length, take-all}
 use Rattle.matte.specs.Layout.{eight}
-use Rattle.paint.specs.Part.{part, partStart}
+use Rattle.paint.specs.Part.{part, partStart, wordOn}
 use Rattle.paint.specs.Span.{whole}
 use Rattle.paint.proofs.Lines.{whole-at, part-start}
 use Rattle.paint.proofs.line_part.Statement.{statement}
@@ -59,14 +59,20 @@ to-end s b = take-all (length s - b) (drop b s) (omega (arith, length-drop b s))
 there : (s : List ℕ) (n a : ℕ) → a ≡ partStart eight n s → part eight n s ≡ whole eight (drop a s)
 there s n a e = part-start eight n s ∙ ap (λ (k : ℕ). whole eight (drop k s)) (sym e)
 
+-- the address of the part
+on-by : {s : ℕ} (p : ℕ × ℕ) (a : ℕ) → a ≡ s → (p .0, a * 4 + p .1) ≡ wordOn p s
+on-by {s} p a e = ap (λ (o : ℕ). (p .0, o)) (omega arith)
+
 returns : tie.Need-returns
 returns c =
     let d = c .before .before .before .before in
     let s = d .before .before .args .words .now in
     let a = d .start-of .result in
     let r = c .before .run-of .result in
-    let h : a < length s = omega arith in
-    whole-at eight s a h r (a + 1 + r - a) (rw (to-end s (a + 1)) at (c .before .run-of .ensures .1)) (omega arith) ∙ sym (there s (d .before .before .args .n) a (d .start-of .ensures .1))
+    let h : a < length s = omega arith in (
+      whole-at eight s a h r (a + 1 + r - a) (rw (to-end s (a + 1)) at (c .before .run-of .ensures .1)) (omega arith) ∙ sym (there s (d .before .before .args .n) a (d .start-of .ensures .1)),
+      on-by (d .before .before .args .words .ptr) a (d .start-of .ensures .1),
+    )
 
 mul-result-2 : tie.Need-mul-result-2
 mul-result-2 c = search needs
@@ -89,7 +95,7 @@ returns-2 c =
     let n = d .before .before .args .n in
     let e : a ≡ length s = omega (arith, d .start-of .ensures .0) in
     let z : a - a ≡ 0 = omega arith in
-    rw z (sym (there s n a (d .start-of .ensures .1) ∙ rw (e, drop-length s)))
+    (rw z (sym (there s n a (d .start-of .ensures .1) ∙ rw (e, drop-length s))), on-by (d .before .before .args .words .ptr) a (d .start-of .ensures .1))
 
 pub line-part-spec : {M : Type 1} → statement M
 line-part-spec =

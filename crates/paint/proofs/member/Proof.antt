@@ -15,7 +15,7 @@ returns : tie.Need-returns
 returns c =
     let d = c .before .before in
     let a = d .before .before .before .args in
-    member-refused (a .w) (a .h) (a .n) (a .x) (a .y) (a .words .now) _ (d .before .line-part .ensures) (d .member-verdict .result) (d .member-verdict .ensures .0) (c .if1 .taken)
+    member-refused (a .w) (a .h) (a .n) (a .x) (a .y) (a .words .now) _ (d .before .line-part .ensures .0) (d .member-verdict .result) (d .member-verdict .ensures .0) (c .if1 .taken)
 
 odd-west-requires : tie.Need-odd-west-requires
 odd-west-requires c κs =
@@ -26,7 +26,7 @@ returns-2 : tie.Need-returns-2
 returns-2 c =
     let d = c .before .before .before in
     let a = d .before .before .before .args in
-    member-done (a .w) (a .h) (a .n) (a .x) (a .y) (a .words .now) _ (d .before .line-part .ensures) (d .member-verdict .result) (d .member-verdict .ensures .0) _ (c .before .if1 .left) (c .odd-west .ensures)
+    member-done (a .w) (a .h) (a .n) (a .x) (a .y) (a .words .now) _ (d .before .line-part .ensures .0) (d .member-verdict .result) (d .member-verdict .ensures .0) _ (c .before .if1 .left) (c .odd-west .ensures)
 
 pub member-spec : {M : Type 1} → statement M
 member-spec =

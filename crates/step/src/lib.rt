@@ -112,7 +112,7 @@ fn leave_by(w: usize, g: Heading, t: usize) -> State
 }
 
 // Through the cell t, entered with the heading g between the place r at the right hand and the place l at the left.
-fn through(px: &[u8], w: usize, k: u8, g: Heading, t: usize, r: usize, l: usize) -> State
+pub fn through(px: &[u8], w: usize, k: u8, g: Heading, t: usize, r: usize, l: usize) -> State
     requires { ⌜ (w ≤ 2048) × (length (now px) ≤ 4194304) × (t + w + 1 < length (now px)) × (r ≡ rightEnd w g t) × (l ≡ leftEnd w g t) ⌝ }
     ensures { λ o. ⌜ ((h : ℕ) → o ≡ leaving w (leave (picture w h (now (px .entry))) k g t) t) ⌝ }
 {

@@ -1,7 +1,7 @@
 -- Blocks of 64 places: their bounds, and which of them hold no fresh place. Assumes nothing.
 -- Definitions: `Finding` the first fresh place of a block among those looked at.
 -- Main laws: `lows-none`, `lows-more`, `highs-none`, `highs-more` the bounds of one block more; `dead-block` a block whose bounds do not enclose the level holds no fresh place; `any-more` one test more of many; `find-begin`,
---   `find-go`, `find-end` the search inside a block; `from-over` the first past numbers that fail; `bare-block`, `bare-dead` no fresh place up to the next block, or over blocks that are not live.
+--   `find-go`, `find-end` the search inside a block; `none-in`, `in-later` a block with no fresh place, and the first one from an offset on; `from-over` the first past numbers that fail; `bare-block`, `bare-dead` no fresh place up to the next block, or over blocks that are not live.
 use mathlib.Core.Path.{_≡_, refl, sym, ap, _∙_}
 use mathlib.Core.Bool.{Bool, true, false, not, _&&_, cond}
 use mathlib.Core.List.{List}
@@ -12,11 +12,11 @@ use native.Mathlib.Omega.{arith}
 use lib.Dec.{eqb, ltb, leb}
 use lib.ListN.{length, getD, set}
 use lib.Seq.{getD-set-same, getD-set-other}
-use borrow.Author.Tests.{eqb-true, eqb-false, leb-true, leb-false, ltb-true, ltb-false, lt-ltb, le-ltb, le-leb, ne-eqb}
+use borrow.Author.Tests.{eqb-true, eqb-false, leb-true, leb-false, ltb-true, ltb-false, lt-ltb, le-ltb, le-leb, ne-eqb, not-true}
 use Rattle.tally.specs.Tally.{one, differ, every, firstFrom}
 use Rattle.tally.proofs.Test.{by-test, no, and-1, and-2, both, differ-self}
 use Rattle.tally.proofs.First.{from-ge, from-le, from-before, from-passes, from-is}
-use Rattle.tally.proofs.Every.{every-none, every-more}
+use Rattle.tally.proofs.Every.{every-none, every-more, every-at}
 use Rattle.trace.specs.Trace.{fresh}
 use Rattle.trace.specs.Search.{Lows, Highs, Blocks, liveAt, FirstIn}
 
@@ -85,58 +85,49 @@ any-more p i any false e h =
     all true = refl
     all false = refl
 
-module _ (px work : List ℕ) (k a s : ℕ) where
+module _ (px work : List ℕ) (k a : ℕ) where
   pub record Finding (i m : ℕ) : Type 0 where
     pub most : m ≤ 64
-    pub passed : (j : ℕ) → s ≤ j → j < i → j < m → fresh px work k (a + j) ≡ false
-    pub found : m < 64 → (s ≤ m) × (m < i) × (fresh px work k (a + m) ≡ true)
+    pub passed : (j : ℕ) → j < i → j < m → fresh px work k (a + j) ≡ false
+    pub found : m < 64 → (m < i) × (fresh px work k (a + m) ≡ true)
 
   pub find-begin : Finding 0 64
-  find-begin = record { most = omega arith; passed = λ j u v t. absurd (omega arith); found = λ t. absurd (omega arith) }
+  find-begin = record { most = omega arith; passed = λ j v t. absurd (omega arith); found = λ t. absurd (omega arith) }
 
-  pub find-go : (i m : ℕ) → i < 64 → Finding i m → (f : Bool) → f ≡ fresh px work k (a + i) → Finding (i + 1) (min m (cond (f && leb s i) i 64))
-  find-go i m h F f e =
-      by-test (f && leb s i)
-      (λ t.
-      let u : fresh px work k (a + i) ≡ true = sym e ∙ and-1 f (leb s i) t in
-      let v : s ≤ i = leb-true s i (and-2 f (leb s i) t) in
-      rw t
-      (by-test (ltb m 64)
+  pub find-go : (i m : ℕ) → i < 64 → Finding i m → (f : Bool) → f ≡ fresh px work k (a + i) → Finding (i + 1) (min m (cond f i 64))
+  find-go i m h F true e =
+      by-test (ltb m 64)
       (λ y.
       let z = F .found (ltb-true m 64 y) in
-      let x : min m i ≡ m = omega (arith, z .1) in
-      rw x
-      (record {
-        most = F .most;
-        passed = λ j b c d. F .passed j b (omega (arith, z .1)) d;
-        found = λ d. (z .0, omega (arith, z .1), z .2);
-      }))
+      let x : min m i ≡ m = omega (arith, z .0) in
+      rw x (record { most = F .most; passed = λ j c d. F .passed j (omega (arith, z .0)) d; found = λ d. (omega (arith, z .0), z .1) }))
       (λ y.
       let z : 64 ≤ m = ltb-false m 64 y in
       let x : min m i ≡ i = omega arith in
+      rw x (record { most = omega arith; passed = λ j c d. F .passed j (omega arith) (omega arith); found = λ d. (omega arith, sym e) }))
+  find-go i m h F false e =
+      let x : min m 64 ≡ m = omega (arith, F .most) in
       rw x
       (record {
-        most = omega arith;
-        passed = λ j b c d. F .passed j b (omega arith) (omega arith);
-        found = λ d. (v, omega arith, u);
-      }))))
-      (λ t.
-      let x : min m 64 ≡ m = omega (arith, F .most) in
-      rw (t, x)
-      (record {
         most = F .most;
-        passed = λ j b c d.
+        passed = λ j c d.
             by-test (eqb j i)
-            (λ y.
-            let q : j ≡ i = eqb-true j i y in
-            ap (λ (z : ℕ). fresh px work k (a + z)) q ∙ sym e ∙ by-test f (λ w. no (both w (le-leb s i (omega arith))) t) (λ w. w))
-            (λ y. F .passed j b (omega (arith, eqb-false j i y)) d);
-        found = λ d. let z = F .found d in (z .0, omega (arith, z .1), z .2);
-      }))
+            (λ y. ap (λ (z : ℕ). fresh px work k (a + z)) (eqb-true j i y) ∙ sym e)
+            (λ y. F .passed j (omega (arith, eqb-false j i y)) d);
+        found = λ d. let z = F .found d in (omega (arith, z .0), z .1);
+      })
 
-  pub find-end : (i m : ℕ) → 64 ≤ i → Finding i m → FirstIn px work k a s m
-  find-end i m h F =
-      record { most = F .most; passed = λ j b c. F .passed j b (omega (arith, F .most)) c; found = λ d. let z = F .found d in (z .0, z .2) }
+  pub find-end : (i m : ℕ) → 64 ≤ i → Finding i m → FirstIn px work k a 0 m
+  find-end i m h F = record { most = F .most; passed = λ j b c. F .passed j (omega (arith, F .most)) c; found = λ d. (omega arith, F .found d .1) }
+
+  -- none of the 64
+  pub none-in : every (λ i. not (fresh px work k (a + i))) 64 ≡ true → FirstIn px work k a 0 64
+  none-in e =
+      record { most = omega arith; passed = λ i b c. not-true _ (every-at (λ j. not (fresh px work k (a + j))) 64 e i c); found = λ d. absurd (omega arith) }
+
+  -- not before an offset that the first one is not before
+  pub in-later : (s m : ℕ) → s ≤ m → FirstIn px work k a 0 m → FirstIn px work k a s m
+  in-later s m h R = record { most = R .most; passed = λ i b c. R .passed i (omega arith) c; found = λ d. (h, R .found d .1) }
 
 -- ---- over what is passed
 pub from-over : (p : ℕ → Bool) (b c n : ℕ) → b ≤ c → c ≤ n → ((j : ℕ) → b ≤ j → j < c → p j ≡ false) → firstFrom p c (n - c) ≡ firstFrom p b (n - b)

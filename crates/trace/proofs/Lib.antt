@@ -1,5 +1,6 @@
 pub mod Places
 pub mod Tracing
+pub mod Arriving
 pub mod Flag
 pub mod Scanning
 pub mod Level

@@ -29,10 +29,10 @@ double i e =
 odd-code : (i e : ℕ) → eqb (2 * i + 1) (2 * e) ≡ false
 odd-code i e = ne-eqb (2 * i + 1) (2 * e) (λ z. omega arith)
 
-flat-true : (i : ℕ) → horizontal (2 * i) ≡ true
+pub flat-true : (i : ℕ) → horizontal (2 * i) ≡ true
 flat-true i = eq-eqb (2 * i % 2) 0 (omega arith)
 
-tall-false : (i : ℕ) → horizontal (2 * i + 1) ≡ false
+pub tall-false : (i : ℕ) → horizontal (2 * i + 1) ≡ false
 tall-false i = ne-eqb ((2 * i + 1) % 2) 0 (λ z. omega arith)
 
 -- the code of a state against that of a lead

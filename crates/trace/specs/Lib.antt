@@ -1,3 +1,4 @@
 pub mod Trace
+pub mod Stride
 pub mod Level
 pub mod Search

@@ -87,22 +87,75 @@ fn or_top(found: bool, i: u8) -> u8
     if found { i } else { 64 }
 }
 
-// The first fresh place of the 64 from a on, not before the offset s; 64 with none.
-fn first_in(px: &[u8], work: &[u8], a: usize, s: u8, k: u8, mark: u8) -> u8
+// One of the 64 places from a on is fresh.
+fn any_in(px: &[u8], work: &[u8], a: usize, k: u8, mark: u8) -> bool
     requires { ⌜ (a + 64 < length (now px)) × (length (now px) ≤ length (now work)) × (length (now px) ≤ 4194304) × (mark ≡ k + 1) ⌝ }
-    ensures { λ r. ⌜ FirstIn (now (px .entry)) (now (work .entry)) k a s r ⌝ }
+    ensures { λ r. ⌜ r ≡ not (every (λ i. not (fresh (now (px .entry)) (now (work .entry)) k (a + i))) 64) ⌝ }
+{
+    let mut any: u8 = 0;
+    let mut i: usize = 0;
+    while i < 64 {
+        any = greater(
+            any,
+            one_if(is_fresh(px[a + i], px[a + i + 1], work[a + i], k, mark)),
+        );
+        i += 1;
+    }
+    any != 0
+}
+
+// The offset of the first fresh place of the 64 from a on; 64 with none.
+fn least_in(px: &[u8], work: &[u8], a: usize, k: u8, mark: u8) -> u8
+    requires { ⌜ (a + 64 < length (now px)) × (length (now px) ≤ length (now work)) × (length (now px) ≤ 4194304) × (mark ≡ k + 1) ⌝ }
+    ensures { λ r. ⌜ FirstIn (now (px .entry)) (now (work .entry)) k a 0 r ⌝ }
 {
     let mut m: u8 = 64;
     let mut i: u8 = 0;
     while i < 64 {
         let p = a + i as usize;
-        m = lesser(
-            m,
-            or_top(is_fresh(px[p], px[p + 1], work[p], k, mark) & (s <= i), i),
-        );
+        m = lesser(m, or_top(is_fresh(px[p], px[p + 1], work[p], k, mark), i));
         i += 1;
     }
     m
+}
+
+// The same; most blocks that the level enters have none left, which is sooner seen.
+fn seen_in(px: &[u8], work: &[u8], a: usize, k: u8, mark: u8) -> u8
+    requires { ⌜ (a + 64 < length (now px)) × (length (now px) ≤ length (now work)) × (length (now px) ≤ 4194304) × (mark ≡ k + 1) ⌝ }
+    ensures { λ r. ⌜ FirstIn (now (px .entry)) (now (work .entry)) k a 0 r ⌝ }
+{
+    if any_in(px, work, a, k, mark) {
+        return least_in(px, work, a, k, mark);
+    }
+    64
+}
+
+// The same, not before the offset s, one by one.
+fn slow_in(px: &[u8], work: &[u8], a: usize, s: u8, k: u8, mark: u8) -> u8
+    requires { ⌜ (a + 64 < length (now px)) × (length (now px) ≤ length (now work)) × (length (now px) ≤ 4194304) × (mark ≡ k + 1) × (s ≤ 64) ⌝ }
+    ensures { λ r. ⌜ FirstIn (now (px .entry)) (now (work .entry)) k a s r ⌝ }
+{
+    let mut i = s;
+    while i < 64 {
+        let p = a + i as usize;
+        if is_fresh(px[p], px[p + 1], work[p], k, mark) {
+            return i;
+        }
+        i += 1;
+    }
+    i
+}
+
+// The same; where a line was just followed from before s, none is left there, and the first of all 64 is the one.
+fn first_in(px: &[u8], work: &[u8], a: usize, s: u8, k: u8, mark: u8) -> u8
+    requires { ⌜ (a + 64 < length (now px)) × (length (now px) ≤ length (now work)) × (length (now px) ≤ 4194304) × (mark ≡ k + 1) × (s ≤ 64) ⌝ }
+    ensures { λ r. ⌜ FirstIn (now (px .entry)) (now (work .entry)) k a s r ⌝ }
+{
+    let m = least_in(px, work, a, k, mark);
+    if s <= m {
+        return m;
+    }
+    slow_in(px, work, a, s, k, mark)
 }
 
 // The level lies between the bounds of block b.
@@ -198,7 +251,7 @@ pub fn search(
     }
     let mut b = next_live(lo, hi, first + 1, blocks, k);
     while b < blocks {
-        let j = first_in(px, work, 64 * b, 0, k, mark);
+        let j = seen_in(px, work, 64 * b, k, mark);
         if j < 64 {
             return 64 * b + j as usize;
         }

@@ -42,7 +42,7 @@ first-in-requires c κs =
     let z = c .before .before .before in
     let a = z .args in
     let B = z .pre .3 in
-    (omega (arith, c .if1 .left, B .inside), z .pre .1, B .few, refl)
+    (omega (arith, c .if1 .left, B .inside), z .pre .1, B .few, refl, omega arith)
 
 mul-result : tie.Need-mul-result Inv-loop μ-loop
 mul-result c =
@@ -108,15 +108,15 @@ loop-holds c =
           (λ d u v. from-before (liveAt (a .lo .now) (a .hi .now) (a .k)) (f + 1) (a .blocks - (f + 1)) d u (rw (sym (c .next-live .ensures)) v)),
     )
 
-mul-first-in-2 : tie.Need-mul-first-in-2 Inv-loop μ-loop
-mul-first-in-2 c =
+mul-seen-in : tie.Need-mul-seen-in Inv-loop μ-loop
+mul-seen-in c =
     let z = c .before .before .before .before .before .before .before .before in
     let a = z .args in
     let B = z .pre .3 in
     omega (arith, c .loop-test .taken, B .inside, B .few)
 
-first-in-requires-2 : tie.Need-first-in-requires-2 Inv-loop μ-loop
-first-in-requires-2 c κs =
+seen-in-requires : tie.Need-seen-in-requires Inv-loop μ-loop
+seen-in-requires c κs =
     let z = c .before .before .before .before .before .before .before .before in
     let a = z .args in
     let B = z .pre .3 in
@@ -145,8 +145,8 @@ returns-3 c =
     let a = z .args in
     let B = z .pre .3 in
     let l = c .before .before .before .loop in
-    let R = c .before .first-in2 .ensures in
-    let i = c .before .first-in2 .result in
+    let R = c .before .seen-in .ensures in
+    let i = c .before .seen-in .result in
     let y = R .found (c .if3 .taken) in
     sym
     (from-is (fresh (a .px .now) (a .work .now) (a .k)) (a .from) (length (a .px .now) - 1 - a .from) (64 * l .b + i) (omega (arith, l .inv .1)) (omega (arith, l .inv .1, c .if3 .taken, c .before .before .loop-test .taken, B .inside))
@@ -186,7 +186,7 @@ loop-again c =
     let a = z .args in
     let B = z .pre .3 in
     let l = c .before .before .before .before .loop in
-    let R = c .before .before .first-in2 .ensures in
+    let R = c .before .before .seen-in .ensures in
     let r = c .next-live2 .result in
     let g : l .b + 1 ≤ r = rw (c .next-live2 .ensures) (from-ge (liveAt (a .lo .now) (a .hi .now) (a .k)) (l .b + 1) (a .blocks - (l .b + 1))) in
     let h : r ≤ l .b + 1 + (a .blocks - (l .b + 1)) = rw (c .next-live2 .ensures) (from-le (liveAt (a .lo .now) (a .hi .now) (a .k)) (l .b + 1) (a .blocks - (l .b + 1))) in
@@ -240,8 +240,8 @@ search-spec =
     add-next-live
     next-live-requires
     loop-holds
-    mul-first-in-2
-    first-in-requires-2
+    mul-seen-in
+    seen-in-requires
     mul-result-2
     cast-result-2
     add-result-2

@@ -1,7 +1,8 @@
 pub mod Takes
 pub mod Turns
-pub mod Adds
-pub mod Along
+pub mod Bytes
+pub mod Walks
+pub mod Bits
 pub mod Layers
 pub mod Grouping
 pub mod Ascent

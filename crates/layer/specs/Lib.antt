@@ -1,2 +1,3 @@
 pub mod Layer
+pub mod Sums
 pub mod Group

@@ -1,18 +1,18 @@
 -- Binary digits. Assumes nothing.
--- Main laws: `digit-zero` 0 has none; `digit-shift` a digit of a shifted number; `digit-past` a number below 2^k has none from k on; `digit-power` a power of two has one; `digit-xor` of a number one digit of
---   which was turned over; `low-zero`, `low-one` the digits up to the lowest that is set.
+-- Main laws: `digit-zero` 0 has none; `digit-shift` a digit of a shifted number; `digit-past` a number below 2^k has none from k on; `digit-low` the lower digits of a number; `shift-fits`; `digit-power` a power of two has
+--   one; `differ-none`; `digit-flip` of a number one digit of which was turned over, or none; `low-zero`, `low-one`, `low-within` the digits up to the lowest that is set.
 use mathlib.Core.Path.{_≡_, refl, sym, ap, _∙_}
-use mathlib.Core.Bool.{true, false}
+use mathlib.Core.Bool.{Bool, true, false, _&&_}
 use Prim.Native.Nat.{ℕ, zero, suc, _+_, _-_, _*_, _/_, _%_, _^_, _≤_, _<_}
-use native.Mathlib.Nat.{div-eq-of-lt, div-one, pow-suc, zero-add}
+use native.Mathlib.Nat.{div-eq-of-lt, div-one, pow-suc, zero-add, zero-mul, one-mul}
 use native.Mathlib.Omega.{arith}
 use lib.Dec.{eqb, ltb}
-use lib.Pow.{pow-mono, pow-lt, pow-add, pow-pos, shr-shr, shl-shr}
-use lib.Bits.{bitXor, xor-shr, xor-mod}
+use lib.Pow.{pow-mono, pow-lt, pow-add, pow-pos, shr-shr, shl-shr, shl-exact, field, mod-mod-pow}
+use lib.Bits.{bitXor, xor-shr, xor-mod, xor-zero-r}
 use lib.Count.{trailingZeros}
 use borrow.Author.Tests.{eqb-true, eqb-false, eq-eqb, ne-eqb, ltb-true, ltb-false}
-use Rattle.tally.specs.Tally.{odd, differ}
-use Rattle.tally.proofs.Test.{by-test}
+use Rattle.tally.specs.Tally.{one, odd, differ}
+use Rattle.tally.proofs.Test.{by-test, no}
 use Rattle.marks.specs.Marks.{digit}
 
 pub digit-zero : (i : ℕ) → digit 0 i ≡ false
@@ -27,7 +27,22 @@ pub digit-past : (x k i : ℕ) → x < 2 ^ k → k ≤ i → digit x i ≡ false
 unfolding digit
 digit-past x k i h l = let t : x < 2 ^ i = omega (arith, pow-mono l) in ap odd (div-eq-of-lt t)
 
+pub digit-low : (x k i : ℕ) → i < k → digit (x % 2 ^ k) i ≡ digit x i
+unfolding digit
+digit-low x k i h =
+    let t = k - i - 1 in
+    let s : k ≡ t + 1 + i = omega arith in
+    ap odd (ap (λ (z : ℕ). x % 2 ^ z / 2 ^ i) s ∙ field x (t + 1) i) ∙ ap (λ (z : ℕ). eqb z 1) (mod-mod-pow (x / 2 ^ i) t 1)
+
+-- a digit goes into 64 of them as it is
+pub shift-fits : (a r : ℕ) → a < 2 → r < 64 → a * 2 ^ r % 2 ^ 64 ≡ a * 2 ^ r
+shift-fits a r l h = shl-exact 1 r 64 l (omega arith)
+
 -- ---- one digit turned over
+pub differ-none : (b : Bool) → b ≡ differ b false
+differ-none true = refl
+differ-none false = refl
+
 pub digit-power : (r s : ℕ) → digit (2 ^ r) s ≡ eqb s r
 unfolding digit
 digit-power r s =
@@ -69,8 +84,11 @@ xor-digit x y i =
     ∙ ap (λ (z : ℕ). eqb z 1) (xor-mod (x / 2 ^ i) (y / 2 ^ i) 1)
     ∙ small-xor (x / 2 ^ i % 2) (y / 2 ^ i % 2) (omega arith) (omega arith)
 
-pub digit-xor : (x r s : ℕ) → digit (bitXor x (2 ^ r)) s ≡ differ (digit x s) (eqb s r)
-digit-xor x r s = xor-digit x (2 ^ r) s ∙ ap (differ (digit x s)) (digit-power r s)
+pub digit-flip : (x r s : ℕ) (b : Bool) → digit (bitXor x (one b * 2 ^ r)) s ≡ differ (digit x s) (b && eqb s r)
+digit-flip x r s true =
+    ap (λ (z : ℕ). digit (bitXor x z) s) (one-mul (2 ^ r)) ∙ xor-digit x (2 ^ r) s ∙ ap (differ (digit x s)) (digit-power r s)
+digit-flip x r s false =
+    ap (λ (z : ℕ). digit (bitXor x z) s) (zero-mul (2 ^ r)) ∙ ap (λ (z : ℕ). digit z s) (xor-zero-r x) ∙ differ-none (digit x s)
 
 -- ---- the lowest digit that is set
 digit-first : (x : ℕ) → digit x 0 ≡ odd x
@@ -104,3 +122,9 @@ low-one (suc k) x p h =
     (λ e.
     let o : x % 2 ≡ 1 = omega (arith, eqb-false (x % 2) 0 e) in
     rw o (digit-first x ∙ eq-eqb (x % 2) 1 o))
+
+pub low-within : (k x : ℕ) → 0 < x → x < 2 ^ k → trailingZeros k x < k
+low-within k x p h =
+    by-test (ltb (trailingZeros k x) k)
+    (λ e. ltb-true (trailingZeros k x) k e)
+    (λ e. no (low-one k x p h) (digit-past x k (trailingZeros k x) h (ltb-false (trailingZeros k x) k e)))

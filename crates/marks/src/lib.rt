@@ -1,11 +1,11 @@
 // Marks at places: one bit for each place that a picture can have.
 ghost use mathlib.Core.Path.{_≡_};
-ghost use mathlib.Core.Bool.{false};
-ghost use Prim.Native.Nat.{ℕ, _+_, _-_, _*_, _≤_, _<_};
+ghost use mathlib.Core.Bool.{false, _&&_};
+ghost use Prim.Native.Nat.{ℕ, _+_, _*_, _/_, _≤_, _<_};
 ghost use lib.Dec.{eqb};
 ghost use lib.ListN.{length, getD};
-ghost use Rattle.tally.specs.Tally.{differ, firstFrom};
-ghost use Rattle.marks.specs.Marks.{bitAt};
+ghost use Rattle.tally.specs.Tally.{one, differ};
+ghost use Rattle.marks.specs.Marks.{bitAt, Ahead};
 
 // Takes the marks off the first 64·n places.
 pub fn clear(m: &mut [u64; 65536], n: usize)
@@ -19,13 +19,20 @@ pub fn clear(m: &mut [u64; 65536], n: usize)
     }
 }
 
-// Turns the mark of place p over.
-pub fn flip(m: &mut [u64; 65536], p: usize)
+// 1 for true.
+fn one_if(b: bool) -> u64
+    ensures { λ r. ⌜ r ≡ one b ⌝ }
+{
+    if b { 1 } else { 0 }
+}
+
+// Turns the mark of place p over, if `on`.
+pub fn flip(m: &mut [u64; 65536], p: usize, on: bool)
     requires { ⌜ (length (now m) ≡ 65536) × (p < 4194304) ⌝ }
-    ensures { λ _. ⌜ (length (now (m .exit)) ≡ 65536) × ((q : ℕ) → bitAt (now (m .exit)) q ≡ differ (bitAt (now (m .entry)) q) (eqb q p)) ⌝ }
+    ensures { λ _. ⌜ (length (now (m .exit)) ≡ 65536) × ((q : ℕ) → bitAt (now (m .exit)) q ≡ differ (bitAt (now (m .entry)) q) (on && eqb q p)) ⌝ }
 {
     let a = p / 64;
-    m[a] = m[a] ^ (1 << (p % 64));
+    m[a] = m[a] ^ (one_if(on) << (p % 64));
 }
 
 // The marks of the 64 places from 64·a on.
@@ -36,23 +43,18 @@ fn number_at(m: &[u64; 65536], a: usize) -> u64
     m[a]
 }
 
-// The first marked place from `from` on, or `to`.
-pub fn next_mark(m: &[u64; 65536], from: usize, to: usize) -> usize
-    requires { ⌜ (from ≤ to) × (to ≤ 4194304) ⌝ }
-    ensures { λ r. ⌜ r ≡ firstFrom (bitAt (now (m .entry))) from (to - from) ⌝ }
+// The marks from p on to the end of its number.
+pub fn ahead(m: &[u64; 65536], p: usize) -> u64
+    requires { ⌜ p < 4194304 ⌝ }
+    ensures { λ r. ⌜ Ahead (now (m .entry)) p ((p / 64 + 1) * 64) r ⌝ }
 {
-    let mut p = from;
-    while p < to {
-        let a = p / 64;
-        let x = number_at(m, a) >> (p % 64);
-        if x != 0 {
-            let q = p + u64::trailing_zeros(x) as usize;
-            if q < to {
-                return q;
-            }
-            return to;
-        }
-        p = (a + 1) * 64;
-    }
-    to
+    number_at(m, p / 64) >> (p % 64)
+}
+
+// The marks from p up to `end`, a place of the same number.
+pub fn ahead_to(m: &[u64; 65536], p: usize, end: usize) -> u64
+    requires { ⌜ (p ≤ end) × (end < (p / 64 + 1) * 64) × (end < 4194304) ⌝ }
+    ensures { λ r. ⌜ Ahead (now (m .entry)) p end r ⌝ }
+{
+    (number_at(m, p / 64) % (1 << (end % 64))) >> (p % 64)
 }

@@ -21,7 +21,7 @@ use Rattle.edgel.specs.Word.{codeOf, levelOf}
 use Rattle.paint.specs.Paint.{turns, painted, painting}
 use Rattle.paint.specs.Span.{inSpan}
 use Rattle.layer.specs.Layer.{hits, turnedAt, running, stacked}
-use Rattle.layer.proofs.Turns.{differ-none}
+use Rattle.marks.proofs.Digits.{differ-none}
 use Rattle.paint.proofs.West.{span-west}
 
 -- ---- one place more

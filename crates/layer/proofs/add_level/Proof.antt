@@ -1,7 +1,8 @@
 -- `layer::add_level` meets its contract: the marks of the level, then a layer. Assumes nothing.
 use native.Mathlib.Omega.{arith}
 use borrow.Author.Needs.{needs}
-use Rattle.layer.proofs.Levels.{layered-same, marks-turned}
+use Rattle.layer.proofs.Layers.{layered-same}
+use Rattle.layer.proofs.Levels.{marks-turned}
 use Rattle.layer.proofs.add_level.Statement.{statement}
 use Rattle.layer.proofs.add_level.Tie as tie
 

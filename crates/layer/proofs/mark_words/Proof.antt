@@ -7,8 +7,9 @@ use lib.ListN.{length, take}
 use Rattle.tally.specs.Tally.{differ}
 use Rattle.matte.specs.Layout.{eight}
 use Rattle.marks.specs.Marks.{bitAt}
+use Rattle.marks.proofs.Digits.{differ-none}
 use Rattle.layer.specs.Layer.{turnedAt}
-use Rattle.layer.proofs.Turns.{differ-none, turned-none, turned-on, turned-end}
+use Rattle.layer.proofs.Turns.{turned-none, turned-on, turned-end}
 use Rattle.layer.proofs.mark_words.Statement.{statement}
 use Rattle.layer.proofs.mark_words.Tie as tie
 

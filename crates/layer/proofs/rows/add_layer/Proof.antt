@@ -1,19 +1,17 @@
--- `layer::add_layer` meets its contract, row by row. Assumes nothing.
+-- `layer::rows::add_layer` meets its contract, row by row. Assumes nothing.
 use mathlib.Core.Path.{_≡_, ap}
 use Prim.Native.Nat.{ℕ, _-_, _*_, _≤_}
 use native.Mathlib.Omega.{arith}
-use lib.ListN.{getD}
 use Rattle.marks.specs.Marks.{bitAt}
-use Rattle.layer.specs.Layer.{Layered}
-use Rattle.layer.proofs.Layers.{row-end, area-le, layer-begin, layer-go}
-use Rattle.layer.proofs.add_layer.Statement.{statement}
-use Rattle.layer.proofs.add_layer.Tie as tie
+use Rattle.layer.proofs.Layers.{Rows, row-end, area-le, layer-begin, layer-go, layer-end}
+use Rattle.layer.proofs.rows.add_layer.Statement.{statement}
+use Rattle.layer.proofs.rows.add_layer.Tie as tie
 
 abbrev Inv-loop : tie.InvT-loop
-Inv-loop w h m f room₀ lo₀ y₀ room lo y = (y ≤ h) × (lo ≡ y * w) × Layered (bitAt m) f w lo room₀ room
+Inv-loop w h m v k room₀ f on₀ lo₀ y₀ room on lo y = (y ≤ h) × (lo ≡ y * w) × Rows (bitAt m) f w lo on room₀ room
 
 abbrev μ-loop : tie.MeasureT-loop
-μ-loop w h m f room₀ lo₀ y₀ room lo y = h - y
+μ-loop w h m v k room₀ f on₀ lo₀ y₀ room on lo y = h - y
 
 loop-holds : tie.Need-loop-holds Inv-loop μ-loop
 loop-holds c = (omega arith, omega arith, layer-begin _ _ _ _)
@@ -31,12 +29,9 @@ add-row-requires c κs =
     let s = l .before .before in
     let a = s .args in
     let r = row-end (a .w) (a .h) (l .loop .y) (c .before .loop-test .taken) in (
-      omega arith,
+      omega (arith, s .pre .0 .w-least),
       omega (arith, r, area-le _ _ (s .pre .0), l .loop .inv .1),
       omega (arith, r, l .loop .inv .1, s .pre .1, l .loop .inv .2 .long),
-      λ j p q.
-          let e : getD (l .loop .room) j 0 ≡ getD (a .room .now) j 0 = l .loop .inv .2 .same j p in
-          omega (arith, s .pre .2 j (omega (arith, r, l .loop .inv .1))),
     )
 
 add-y : tie.Need-add-y Inv-loop μ-loop
@@ -52,7 +47,7 @@ loop-again c =
     let l = c .before .before .before .before .before in (
       omega (arith, c .before .before .before .before .loop-test .taken),
       omega (arith, l .loop .inv .1),
-      layer-go _ _ _ _ (l .loop .y) _ _ _ (l .loop .inv .1) (l .loop .inv .2) (c .before .before .add-row .ensures),
+      layer-go _ _ _ _ (l .loop .y) _ _ _ _ _ (omega (arith, l .before .before .pre .0 .w-least)) (l .loop .inv .1) (l .loop .inv .2) (c .before .before .add-row .ensures),
     )
 
 same-length : tie.Need-same-length Inv-loop μ-loop
@@ -65,7 +60,7 @@ returns c =
     let t : l .loop .y ≡ a .h = omega (arith, l .loop .inv .0, c .loop-test .left) in
     let u : l .loop .y * a .w ≡ a .h * a .w = ap (λ (z : ℕ). z * a .w) t in
     let e : l .loop .lo ≡ a .w * a .h = omega (arith, l .loop .inv .1) in
-    rw e at (l .loop .inv .2)
+    layer-end _ _ _ _ _ _ _ (rw e at (l .loop .inv .2))
 
 pub add-layer-spec : {M : Type 1} → statement M
 add-layer-spec =

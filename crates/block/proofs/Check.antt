@@ -1,5 +1,5 @@
 -- The check, one byte at a time, and what it tells apart. Assumes nothing.
--- Main laws: `stirred-more` one byte more, `stirred-all` no byte left; `stir-start`, `stir-byte` each step is injective in the sum and in the byte; `start-told` equal payloads with different starts
+-- Main laws: `stirred-more`, `stirred-next` one byte more, `stirred-all`, `stirred-end` no byte left; `stir-start`, `stir-byte` each step is injective in the sum and in the byte; `start-told` equal payloads with different starts
 --   have different sums; `byte-told` payloads that differ in one byte have, `set-told` the same for a byte stored; `number-told` equal payloads in blocks of different number have different checks;
 --   `check-below` a check has 32 bits.
 use mathlib.Core.Path.{_≡_, sym, ap, _∙_}
@@ -19,6 +19,13 @@ module _ (l : List ℕ) (s i : ℕ) where
   pub stirred-all : i ≡ length l → stirred s (drop i l) ≡ s
   unfolding stirred
   stirred-all e = rw (e, drop-length l)
+
+  -- the same, of a sum c that is what is left to be stirred into s
+  pub stirred-next : (c t : ℕ) → i < length l → c ≡ stirred s (drop i l) → t ≡ stir s (getD l i 0) → c ≡ stirred t (drop (i + 1) l)
+  stirred-next c t h e f = e ∙ stirred-more h ∙ ap (λ (z : ℕ). stirred z (drop (i + 1) l)) (sym f)
+
+  pub stirred-end : (c : ℕ) → i ≡ length l → c ≡ stirred s (drop i l) → s ≡ c
+  stirred-end c e f = sym (f ∙ stirred-all e)
 
 -- the low 31 bits move up, the highest to the bottom
 turned : (s : ℕ) → s < 4294967296 → rotate s ≡ 2 * (s % 2147483648) + s / 2147483648

@@ -1,6 +1,7 @@
 -- Stores in a list as parts joined. Assumes nothing.
--- Main laws: `put-2`, `put-4` two and four stores in a row; `onto` a part stored after what is stored already; `zero-start`, `zero-more`, `zero-end` zeros one by one; `closed` zeros and check make a block.
-use mathlib.Core.Path.{_≡_, sym, ap, _∙_}
+-- Main laws: `put-2`, `put-4` two and four stores in a row; `onto` a part stored after what is stored already; `zero-start`, `zero-more`, `zero-end` zeros one by one; `closed` zeros and check make a block,
+--   `closed-two` two checks two blocks.
+use mathlib.Core.Path.{_≡_, sym, ap, ap₂, _∙_}
 use mathlib.Core.List.{List, [], _∷_, _++_, append-assoc, append-nil}
 use Prim.Native.Nat.{ℕ, suc, _+_, _-_, _≤_, _<_}
 use native.Mathlib.Numerals.{add-one, add-two, add-three}
@@ -71,3 +72,22 @@ closed s p a b n sum l m e f g =
     ∙ append-nil (take 508 a ++ le4 sum)
     ∙ ap (λ (z : ℕ). take 508 a ++ le4 z) f
     ∙ ap (λ (z : List ℕ). z ++ le4 (check n z)) t
+
+-- two payloads of 508 bytes, 512 apart, and the check after each: two blocks
+pub closed-two : (s a b : List ℕ) (n x y : ℕ) → length s ≡ 1024 → x ≡ check n (take 508 s) → y ≡ check (n + 1) (take 508 (drop 512 s))
+    → a ≡ take 508 s ++ le4 x ++ drop 512 s → b ≡ take 1020 a ++ le4 y ++ drop 1024 a → b ≡ block n (take 508 s) ++ block (n + 1) (take 508 (drop 512 s))
+closed-two s a b n x y l f g e h =
+    let q = take 508 (drop 512 s) in
+    let first = take 508 s ++ le4 x in
+    let lf : length first ≡ 512 = length-append (take 508 s) (le4 x) ∙ omega (arith, length-take-le 508 s (omega arith)) in
+    let lq : length q ≡ 508 = length-take-le 508 (drop 512 s) (omega (arith, length-drop 512 s)) in
+    let u : a ≡ (first ++ q) ++ drop 1020 s =
+    e
+    ∙ ap (λ (z : List ℕ). first ++ z) (sym (take-append-drop 508 (drop 512 s)) ∙ ap (λ (z : List ℕ). q ++ z) (drop-drop 508 512 s))
+    ∙ sym (append-assoc first q (drop 1020 s)) in
+    h
+    ∙ onto (first ++ q) (le4 y) s a 1020 4 (length-append first q ∙ omega (arith, lf, lq)) u
+    ∙ ap (λ (z : List ℕ). (first ++ q ++ le4 y) ++ z) (drop-of-length-le s {i = 1024} (omega arith))
+    ∙ append-nil (first ++ q ++ le4 y)
+    ∙ append-assoc first q (le4 y)
+    ∙ ap₂ (λ (i j : ℕ). (take 508 s ++ le4 i) ++ (q ++ le4 j)) f g

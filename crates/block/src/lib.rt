@@ -33,6 +33,31 @@ pub fn check_of(number: usize, payload: &[u8]) -> u32
     s
 }
 
+// The checks of two blocks.
+pub struct Sums {
+    pub first: u32,
+    pub second: u32,
+}
+
+// The checks of two payloads of one length. Each step of a sum waits for the one before, so two sums at once take little longer than one.
+pub fn check_two(m: usize, a: &[u8], n: usize, b: &[u8]) -> Sums
+    requires { ⌜ length (now a) ≡ length (now b) ⌝ }
+    ensures { λ r. ⌜ (r .first ≡ check m (now (a .entry))) × (r .second ≡ check n (now (b .entry))) ⌝ }
+{
+    let mut s = (m % 4294967296) as u32;
+    let mut t = (n % 4294967296) as u32;
+    let mut i = 0;
+    while i < a.len() {
+        s = stir(s, a[i]);
+        t = stir(t, b[i]);
+        i += 1;
+    }
+    Sums {
+        first: s,
+        second: t,
+    }
+}
+
 // The number of two little-endian bytes.
 fn pair(a: u8, b: u8) -> u32
     ensures { λ r. ⌜ (r ≡ a + b * 256) × (r < 65536) ⌝ }
@@ -103,6 +128,16 @@ pub fn close(s: &mut [u8], from: usize, number: usize)
     clear(s, from);
     let sum = check_of(number, &s[0..508]);
     put4(s, 508, sum);
+}
+
+// Two blocks one after the other, each with its payload in place: their checks.
+pub fn close_two(s: &mut [u8], number: usize)
+    requires { ⌜ (length (now s) ≡ 1024) × (number < 4294967296) ⌝ }
+    ensures { λ _. ⌜ now (s .exit) ≡ block number (take 508 (now (s .entry))) ++ block (number + 1) (take 508 (drop 512 (now (s .entry)))) ⌝ }
+{
+    let two = check_two(number, &s[0..508], number + 1, &s[512..1020]);
+    put4(s, 508, two.first);
+    put4(s, 1020, two.second);
 }
 
 // The block's check is right.

@@ -9,6 +9,7 @@ pub mod Zeros
 pub mod Checks
 pub mod Laid
 pub mod Taken
+pub mod Runs
 pub mod Read
 pub mod There
 pub mod Round

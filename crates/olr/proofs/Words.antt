@@ -1,5 +1,6 @@
 -- Words as bytes. Assumes nothing.
--- Main laws: `bytes-length`, `bytes-append`, `bytes-more` one word more; `bytes-start`, `bytes-put`, `bytes-all` a block filled word by word.
+-- Main laws: `bytes-length`, `bytes-append`, `bytes-more` one word more; `bytes-start`, `bytes-put`, `bytes-full` a block filled word by word; `bytes-all` its
+--   bytes are those of the words.
 use mathlib.Core.Path.{_≡_, refl, sym, ap, _∙_}
 use mathlib.Core.List.{List, [], _∷_, _++_, append-assoc, append-nil}
 use Prim.Native.Nat.{ℕ, _+_, _*_, _≤_, _<_}
@@ -49,8 +50,8 @@ module _ (ws was : List ℕ) where
       ∙ ap (λ (l : List ℕ). l ++ drop (4 * j + 4) was) (sym (bytes-more ws j h))
       ∙ ap (λ (m : ℕ). wordBytes (take (j + 1) ws) ++ drop m was) n
 
-  pub bytes-all : (b : List ℕ) (j : ℕ) → j ≡ length ws → b ≡ wordBytes (take j ws) ++ drop (4 * j) was → take (4 * j) b ≡ wordBytes ws
-  bytes-all b j h e =
-      ap (take (4 * j)) e
-      ∙ take-at (wordBytes (take j ws)) (drop (4 * j) was) (4 * j) (bytes-place j (omega arith))
-      ∙ ap wordBytes (take-all j ws (omega arith))
+  pub bytes-full : (b : List ℕ) (j : ℕ) → j ≡ length ws → b ≡ wordBytes (take j ws) ++ drop (4 * j) was → b ≡ wordBytes ws ++ drop (4 * length ws) was
+  bytes-full b j h e = e ∙ ap (λ (l : List ℕ). wordBytes l ++ drop (4 * j) was) (take-all j ws (omega arith)) ∙ ap (λ (n : ℕ). wordBytes ws ++ drop (4 * n) was) h
+
+  pub bytes-all : (b : List ℕ) → b ≡ wordBytes ws ++ drop (4 * length ws) was → take (4 * length ws) b ≡ wordBytes ws
+  bytes-all b e = ap (take (4 * length ws)) e ∙ take-at (wordBytes ws) (drop (4 * length ws) was) (4 * length ws) (bytes-length ws)

@@ -1,8 +1,10 @@
 // The parts of a file as it is read: the checks, the layout, the refusals, levels and words.
 use crate::Stored;
+use crate::put::block_end;
 use crate::put::blocks_for;
 use crate::put::verdict_of;
 use block::check_fits;
+use block::check_two;
 use block::num2_at;
 use block::num4_at;
 use edgel::flagged;
@@ -10,6 +12,7 @@ use matte::Answer;
 use matte::Verdict;
 use refuse::levels_fit;
 use refuse::sides_fit;
+use words::grid_of;
 use words::level_table;
 use words::word_fits;
 ghost use mathlib.Core.Path.{_≡_};
@@ -34,14 +37,25 @@ pub fn first_bad_block(file: &[u8]) -> usize
 {
     let n = file.len() / 512;
     let mut i = 0;
-    while i < n {
+    while i + 1 < n {
         let at = 512 * i;
-        if !check_fits(&file[at..at + 512], i) {
+        let two = check_two(i, &file[at..at + 508], i + 1, &file[at + 512..at + 1020]);
+        if num4_at(file, at + 508) != two.first {
             return i;
         }
-        i += 1;
+        if num4_at(file, at + 1020) != two.second {
+            return i + 1;
+        }
+        i += 2;
     }
-    i
+    if n <= i {
+        return n;
+    }
+    let at = 512 * i;
+    if !check_fits(&file[at..at + 512], i) {
+        return i;
+    }
+    n
 }
 
 // Every byte is zero.
@@ -128,27 +142,25 @@ pub fn laid_out(file: &[u8]) -> bool
     tail_fits(file)
 }
 
-// Word i of the file.
-pub fn word_at(file: &[u8], i: usize) -> u32
-    requires { ⌜ (i < 16777216) × (512 * (1 + i / 127) + 512 ≤ length (now file)) ⌝ }
-    ensures { λ r. ⌜ r ≡ num4 (now (file .entry)) (512 * (1 + i / 127) + 4 * (i % 127)) ⌝ }
-{
-    num4_at(file, 512 * (1 + i / 127) + 4 * (i % 127))
-}
-
 // The first word that is bad for its code or its level, or how many words there are.
 pub fn first_bad(file: &[u8], w: usize, h: usize, n: usize) -> usize
     requires { ⌜ (Sides w h) × Holds (now file) n ⌝ }
     ensures { λ r. ⌜ r ≡ firstAt (badWord eight w h (fileLevels (now (file .entry)))) (fileWords (now (file .entry))) ⌝ }
 {
+    let g = grid_of(w, h);
     let m = 16 + level_count(file);
     let t = level_table(&file[16..m]);
     let mut i = 0;
     while i < n {
-        if !word_fits(w, h, &t, word_at(file, i)) {
-            return i;
+        let e = block_end(i, n);
+        let mut at = 512 * (1 + i / 127);
+        while i < e {
+            if !word_fits(g, &t, num4_at(file, at)) {
+                return i;
+            }
+            at += 4;
+            i += 1;
         }
-        i += 1;
     }
     i
 }
@@ -171,10 +183,15 @@ pub fn take_words(file: &[u8], n: usize, words: &mut [u32]) -> usize
     let mut lines: usize = 0;
     let mut i = 0;
     while i < n {
-        let u = word_at(file, i);
-        words[i] = u;
-        lines += mark(u);
-        i += 1;
+        let e = block_end(i, n);
+        let mut at = 512 * (1 + i / 127);
+        while i < e {
+            let u = num4_at(file, at);
+            words[i] = u;
+            lines += mark(u);
+            at += 4;
+            i += 1;
+        }
     }
     lines
 }

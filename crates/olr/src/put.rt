@@ -1,5 +1,6 @@
 // The parts of a file as it is written: the refusals, block 0, the blocks of words.
 use block::close;
+use block::close_two;
 use block::put2;
 use block::put4;
 use matte::Verdict;
@@ -8,7 +9,7 @@ use refuse::sides_fit;
 use words::first_bad_word;
 ghost use mathlib.Core.Path.{_≡_};
 ghost use mathlib.Core.List.{[], _∷_, _++_};
-ghost use Prim.Native.Nat.{_+_, _-_, _*_, _≤_, min};
+ghost use Prim.Native.Nat.{_+_, _-_, _*_, _≤_, _<_, min};
 ghost use lib.ListN.{length, take, drop};
 ghost use Rattle.block.specs.Block.{le2, le4, pad, block};
 ghost use Rattle.olr.specs.File.{blocksFor, letters, header, wordBytes, wordBlocks, writeVerdict};
@@ -98,17 +99,35 @@ pub fn put_head(s: &mut [u8], w: usize, h: usize, v: u8, levels: &[u8], n: usize
     close(s, 16 + m, 0);
 }
 
-// A block of at most 127 words.
-pub fn put_block(s: &mut [u8], number: usize, words: &[u32])
+// The bytes of words, at the start.
+pub fn put_bytes(s: &mut [u8], words: &[u32])
     requires { ⌜ (length (now s) ≡ 512) × (length (now words) ≤ 127) ⌝ }
-    ensures { λ _. ⌜ now (s .exit) ≡ block number (pad (wordBytes (now (words .entry)))) ⌝ }
+    ensures { λ _. ⌜ now (s .exit) ≡ wordBytes (now (words .entry)) ++ drop (4 * length (now (words .entry))) (now (s .entry)) ⌝ }
 {
     let mut j = 0;
     while j < words.len() {
         put4(s, 4 * j, words[j]);
         j += 1;
     }
-    close(s, 4 * j, number);
+}
+
+// A block of at most 127 words.
+pub fn put_block(s: &mut [u8], number: usize, words: &[u32])
+    requires { ⌜ (length (now s) ≡ 512) × (length (now words) ≤ 127) ⌝ }
+    ensures { λ _. ⌜ now (s .exit) ≡ block number (pad (wordBytes (now (words .entry)))) ⌝ }
+{
+    put_bytes(s, words);
+    close(s, 4 * words.len(), number);
+}
+
+// Two blocks of 127 words each, from word a on.
+pub fn put_two(s: &mut [u8], number: usize, words: &[u32], a: usize)
+    requires { ⌜ (length (now s) ≡ 1024) × (number < 4294967296) × (a + 254 ≤ length (now words)) × (a ≤ 16777215) ⌝ }
+    ensures { λ _. ⌜ now (s .exit) ≡ wordBlocks number 2 (drop a (now (words .entry))) ⌝ }
+{
+    put_bytes(&mut s[0..512], &words[a..a + 127]);
+    put_bytes(&mut s[512..1024], &words[a + 127..a + 254]);
+    close_two(s, number);
 }
 
 // Where the words of a block end that start at a.
@@ -122,20 +141,32 @@ pub fn block_end(a: usize, n: usize) -> usize
     a + 127
 }
 
+// Block 1 + i, and the next where both are full; the number after them, less 1.
+pub fn put_next(file: &mut [u8], words: &[u32], i: usize) -> usize
+    requires { ⌜ (length (now words) ≤ 16777215) × (i < blocksFor (length (now words))) × (512 * (1 + blocksFor (length (now words))) ≤ length (now file)) ⌝ }
+    ensures { λ r. ⌜ (i < r) × (r ≤ blocksFor (length (now (words .entry)))) × (now (file .exit) ≡ take (512 + 512 * i) (now (file .entry))
+        ++ (wordBlocks (1 + i) (r - i) (drop (127 * i) (now (words .entry))) ++ drop (512 * (r - i)) (drop (512 + 512 * i) (now (file .entry))))) ⌝ }
+{
+    let a = 127 * i;
+    let at = 512 + 512 * i;
+    if a + 254 <= words.len() {
+        put_two(&mut file[at..at + 1024], 1 + i, words, a);
+        return i + 2;
+    }
+    let e = block_end(a, words.len());
+    put_block(&mut file[at..at + 512], 1 + i, &words[a..e]);
+    i + 1
+}
+
 // The blocks of words, from block 1 on.
 pub fn put_words(file: &mut [u8], words: &[u32])
     requires { ⌜ (length (now words) ≤ 16777215) × (512 * (1 + blocksFor (length (now words))) ≤ length (now file)) ⌝ }
     ensures { λ _. ⌜ now (file .exit) ≡ (take 512 (now (file .entry)) ++ wordBlocks 1 (blocksFor (length (now (words .entry)))) (now (words .entry)))
         ++ drop (512 * (1 + blocksFor (length (now (words .entry))))) (now (file .entry)) ⌝ }
 {
-    let n = words.len();
-    let m = blocks_for(n);
+    let m = blocks_for(words.len());
     let mut i = 0;
     while i < m {
-        let a = 127 * i;
-        let e = block_end(a, n);
-        let at = 512 + 512 * i;
-        put_block(&mut file[at..at + 512], 1 + i, &words[a..e]);
-        i += 1;
+        i = put_next(file, words, i);
     }
 }

@@ -1,3 +1,4 @@
+pub mod Divides
 pub mod Fits
 pub mod Table
 pub mod Search

@@ -1,1 +1,2 @@
+pub mod Gridded
 pub mod Listed

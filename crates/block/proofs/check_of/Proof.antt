@@ -1,11 +1,11 @@
 -- `block::check_of` meets its contract: what is left is to be stirred into the sum so far. Assumes nothing.
-use mathlib.Core.Path.{_≡_, refl, sym, ap, _∙_}
-use Prim.Native.Nat.{ℕ, _+_, _≤_, _-_}
+use mathlib.Core.Path.{_≡_, refl}
+use Prim.Native.Nat.{_≤_, _-_}
 use native.Mathlib.Omega.{arith}
 use borrow.Author.Needs.{needs}
 use lib.ListN.{length, drop}
 use Rattle.block.specs.Block.{stirred, check}
-use Rattle.block.proofs.Check.{stirred-more, stirred-all}
+use Rattle.block.proofs.Check.{stirred-next, stirred-end}
 use Rattle.block.proofs.check_of.Statement.{statement}
 use Rattle.block.proofs.check_of.Tie as tie
 
@@ -36,17 +36,11 @@ loop-less c = omega arith
 
 loop-again : tie.Need-loop-again Inv-loop μ-loop
 loop-again c =
-    let l = c .before .before .before in (
-      omega arith,
-      l .loop .inv .1
-          ∙ stirred-more (l .before .before .args .payload .now) (l .loop .s) (l .loop .i) (c .before .before .loop-test .taken)
-          ∙ ap (λ (z : ℕ). stirred z (drop (l .loop .i + 1) (l .before .before .args .payload .now))) (sym (c .stir .ensures)),
-    )
+    let l = c .before .before .before in
+    (omega arith, stirred-next (l .before .before .args .payload .now) (l .loop .s) (l .loop .i) _ _ (c .before .before .loop-test .taken) (l .loop .inv .1) (c .stir .ensures))
 
 returns : tie.Need-returns Inv-loop μ-loop
-returns c =
-    let e : c .before .loop .i ≡ length (c .before .before .before .args .payload .now) = omega arith in
-    sym (c .before .loop .inv .1 ∙ stirred-all _ _ _ e)
+returns c = stirred-end _ _ _ _ (let e : c .before .loop .i ≡ length (c .before .before .before .args .payload .now) = omega arith in e) (c .before .loop .inv .1)
 
 pub check-of-spec : {M : Type 1} → statement M
 check-of-spec =

@@ -8,17 +8,22 @@ use borrow.Author.Needs.{needs}
 use lib.ListN.{length, getD}
 use Rattle.matte.specs.Layout.{eight}
 use Rattle.edgel.specs.Word.{badWord}
+use Rattle.words.specs.Listed.{wordFits}
+use Rattle.words.proofs.Fits.{gridded, on-size}
 use Rattle.words.proofs.Table.{word-told}
 use Rattle.words.proofs.Search.{stop, end}
 use Rattle.words.proofs.first_bad_word.Statement.{statement}
 use Rattle.words.proofs.first_bad_word.Tie as tie
 
 abbrev Inv-loop : tie.InvT-loop
-Inv-loop w h ks ws t i₀ i =
+Inv-loop w h ks ws g t i₀ i =
     (i ≤ length ws) × ((j : ℕ) → j < i → badWord eight w h ks (getD ws j 0) ≡ false)
 
 abbrev μ-loop : tie.MeasureT-loop
-μ-loop w h ks ws t i₀ i = length ws - i
+μ-loop w h ks ws g t i₀ i = length ws - i
+
+grid-of-requires : tie.Need-grid-of-requires Inv-loop μ-loop
+grid-of-requires c κs = search needs
 
 level-table-requires : tie.Need-level-table-requires Inv-loop μ-loop
 level-table-requires c κs = search needs
@@ -33,12 +38,12 @@ shared-slice-read-word-fits : tie.Need-shared-slice-read-word-fits Inv-loop μ-l
 shared-slice-read-word-fits c = search needs
 
 word-fits-requires : tie.Need-word-fits-requires Inv-loop μ-loop
-word-fits-requires c κs = search needs
+word-fits-requires c κs = let s = c .before .before .before .before .before in gridded _ _ _ (s .grid-of .ensures) (s .before .before .before .pre)
 
 returns : tie.Need-returns Inv-loop μ-loop
 returns c =
     let l = c .before .before .before .before .before in
-    stop _ _ _ (l .loop .inv .1) (omega arith) (word-told _ _ _ _ _ _ (l .before .level-table .ensures) (c .before .word-fits .ensures) true (c .if1 .taken))
+    stop _ _ _ (l .loop .inv .1) (omega arith) (word-told _ _ _ _ _ _ (l .before .level-table .ensures) (on-size _ _ _ (l .before .before .grid-of .ensures) (λ w h. wordFits eight w h (l .before .level-table .result) (getD (l .before .before .before .before .before .args .ws .now) (l .loop .i) 0)) _ (c .before .word-fits .ensures)) true (c .if1 .taken))
 
 add-i : tie.Need-add-i Inv-loop μ-loop
 add-i c = search needs
@@ -49,7 +54,7 @@ loop-less c = search needs
 loop-again : tie.Need-loop-again Inv-loop μ-loop
 loop-again c =
     let l = c .before .before .before .before .before in
-    (omega arith, below-more _ _ (l .loop .inv .1) (word-told _ _ _ _ _ _ (l .before .level-table .ensures) (c .before .word-fits .ensures) false (c .if1 .left)))
+    (omega arith, below-more _ _ (l .loop .inv .1) (word-told _ _ _ _ _ _ (l .before .level-table .ensures) (on-size _ _ _ (l .before .before .grid-of .ensures) (λ w h. wordFits eight w h (l .before .level-table .result) (getD (l .before .before .before .before .before .args .ws .now) (l .loop .i) 0)) _ (c .before .word-fits .ensures)) false (c .if1 .left)))
 
 returns-2 : tie.Need-returns-2 Inv-loop μ-loop
 returns-2 c = end _ _ _ (c .before .loop .inv .1) (omega arith) (omega arith)
@@ -60,6 +65,7 @@ first-bad-word-spec =
     (tie.spec
     Inv-loop
     μ-loop
+    grid-of-requires
     level-table-requires
     loop-holds
     mul-word-fits

@@ -36,7 +36,7 @@ pub const ALL: [Call; 11] = [
 
 /// A program under test.
 #[allow(clippy::too_many_arguments)]
-pub trait Calls {
+pub trait Calls: Sync {
     /// Does the program have this call yet?
     fn has(&self, call: Call) -> bool;
     fn list(&self, w: usize, h: usize, px: &[u8], levels: &[u8], work: &mut [u8], words: &mut [u32]) -> Answer;

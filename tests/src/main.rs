@@ -31,6 +31,7 @@ mod run;
 mod show;
 mod shrink;
 mod small;
+mod stack;
 mod vectors;
 mod words;
 
@@ -51,7 +52,7 @@ pub struct Group {
     run: fn(&mut Run),
 }
 
-const GROUPS: [Group; 11] = [
+const GROUPS: [Group; 12] = [
     Group { name: "vectors", random: false, heavy: false, run: vectors::group },
     Group { name: "small", random: false, heavy: false, run: small::group },
     Group { name: "refusals", random: true, heavy: false, run: refusals::group },
@@ -62,6 +63,7 @@ const GROUPS: [Group; 11] = [
     Group { name: "files", random: true, heavy: false, run: files::group },
     Group { name: "frames", random: true, heavy: false, run: frames::group },
     Group { name: "listings", random: true, heavy: false, run: listings::group },
+    Group { name: "stack", random: false, heavy: false, run: stack::group },
     Group { name: "large", random: false, heavy: true, run: large::group },
 ];
 

@@ -4,16 +4,15 @@
 --   `above-even`, `above-odd` the same in two sentences.
 use mathlib.Core.Path.{_≡_, refl, sym, ap, _∙_}
 use mathlib.Core.Bool.{Bool, true, false, not}
-use mathlib.Core.List.{List, [], _∷_}
+use mathlib.Core.List.{List}
 use Prim.Native.Nat.{ℕ, suc, _+_, _*_, _<_}
 use native.Mathlib.Omega.{arith}
-use Rattle.tally.specs.Tally.{one, differ, odd, count, tally, flat, stands}
+use Rattle.tally.specs.Tally.{one, differ, odd, count, flat, stands}
 use Rattle.tally.proofs.Test.{twice, differ-false}
-use Rattle.tally.proofs.Count.{tally-append}
-use Rattle.tally.proofs.Parity.{odd-plus, odd-one}
 use Rattle.matte.specs.Picture.{Picture, high}
 use Rattle.edgel.specs.Edgel.{across, down}
-use Rattle.edgel.specs.Beside.{westOf, oddWest, oddNorth, oddLines}
+use Rattle.edgel.specs.Beside.{oddWest, oddNorth, oddLines}
+use Rattle.edgel.proofs.Beside.{odd-lines}
 use Rattle.outline.specs.Line.{cutAt, line, lines}
 use Rattle.outline.proofs.Border.{Border, frame}
 use Rattle.outline.proofs.Paper.{bit}
@@ -22,15 +21,6 @@ use Rattle.outline.proofs.Beside.{odd-west}
 use Rattle.outline.proofs.Whole.{each-once, line-east, line-south, line-column}
 use Rattle.outline.proofs.Lines.{IsLine}
 use Rattle.outline.proofs.Places.{lead-cut}
-
-pub odd-lines : (w : ℕ) (ls : List (List ℕ)) (x y : ℕ) → odd (oddLines w ls x y) ≡ oddWest w (flat ls) x y
-unfolding oddLines flat tally
-odd-lines w [] x y = refl
-odd-lines w (l ∷ ls) x y =
-    odd-plus (one (oddWest w l x y)) (oddLines w ls x y)
-    ∙ ap (λ (z : Bool). differ z (odd (oddLines w ls x y))) (odd-one (oddWest w l x y))
-    ∙ ap (λ (z : Bool). differ (oddWest w l x y) z) (odd-lines w ls x y)
-    ∙ sym (ap odd (tally-append (westOf w x y) l (flat ls)) ∙ odd-plus (tally (westOf w x y) l) (tally (westOf w x y) (flat ls)))
 
 module _ (P : Picture) (B : Border P) (k : ℕ) where
   pub stands-once : (c : ℕ) → count c (flat (lines P k)) ≡ one (cutAt P k c)

@@ -1,0 +1,21 @@
+//! Plain loops to hold the library against.
+
+/// The file's block check as a plain loop: how many blocks have a right one.
+pub fn right_blocks(file: &[u8]) -> usize {
+    let blocks = file.chunks_exact(512).enumerate();
+    blocks.filter(|(number, block)| block[508..] == check(*number, &block[..508]).to_le_bytes()).count()
+}
+
+/// The sum starts with the block's number; for each byte it is rotated left by one bit, then the byte is added.
+fn check(number: usize, payload: &[u8]) -> u32 {
+    let mut sum = number as u32;
+    for &byte in payload {
+        sum = sum.rotate_left(1).wrapping_add(u32::from(byte));
+    }
+    sum
+}
+
+/// One look at every sample: the least and the greatest.
+pub fn ends(px: &[u8]) -> (u8, u8) {
+    px.iter().fold((255, 0), |(least, most), &v| (v.min(least), v.max(most)))
+}

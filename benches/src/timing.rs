@@ -1,0 +1,82 @@
+//! Time on the processor, the least of several repeats. Other jobs may share the machine, so the clock is that of
+//! this process.
+
+#[repr(C)]
+struct Timespec {
+    seconds: i64,
+    nanoseconds: i64,
+}
+
+/// The numbers of the clock on the wall and of the process's own clock.
+const WALL: i32 = 1;
+const PROCESS: i32 = 2;
+
+extern "C" {
+    fn clock_gettime(clock: i32, time: *mut Timespec) -> i32;
+}
+
+/// Seconds on a clock.
+fn now(clock: i32) -> f64 {
+    let mut time = Timespec { seconds: 0, nanoseconds: 0 };
+    // SAFETY: the struct is laid out as C has it on 64-bit Linux.
+    let status = unsafe { clock_gettime(clock, &mut time) };
+    assert_eq!(status, 0, "the clock is there");
+    time.seconds as f64 + time.nanoseconds as f64 * 1e-9
+}
+
+/// How long a thing took.
+pub struct Took {
+    pub process: f64,
+    wall: f64,
+}
+
+impl Took {
+    /// Hardly anything else ran meanwhile. Where something did, the process's clock may have been set back too far: a
+    /// guest takes off what its host says it has stolen.
+    fn calm(&self) -> bool {
+        self.process > 0.9 * self.wall
+    }
+}
+
+/// How long a thing takes, once.
+pub fn once(thing: impl FnOnce()) -> Took {
+    let (wall, process) = (now(WALL), now(PROCESS));
+    thing();
+    let process = now(PROCESS) - process;
+    Took { process, wall: now(WALL) - wall }
+}
+
+/// How much is repeated.
+#[derive(Clone, Copy)]
+pub struct Pace {
+    /// The seconds for one group of calls.
+    pub seconds: f64,
+    /// Repeats that are made even if they take longer.
+    pub at_least: usize,
+}
+
+impl Pace {
+    /// The same with another share of the seconds.
+    pub fn share(self, part: f64) -> Pace {
+        Pace { seconds: self.seconds * part, ..self }
+    }
+
+    /// The least time of each call, by its calm repeats if it has any. They take turns, so that what disturbs one
+    /// disturbs all.
+    pub fn least<C: Copy, const N: usize>(self, calls: [C; N], mut run: impl FnMut(C)) -> [f64; N] {
+        let (mut calm, mut any) = ([f64::MAX; N], [f64::MAX; N]);
+        let (mut spent, mut repeats) = (0.0, 0);
+        while repeats < self.at_least || spent < self.seconds {
+            for (i, call) in calls.into_iter().enumerate() {
+                let took = once(|| run(call));
+                any[i] = any[i].min(took.process);
+                if took.calm() {
+                    calm[i] = calm[i].min(took.process);
+                }
+                spent += took.process;
+            }
+            repeats += 1;
+        }
+        std::array::from_fn(|i| if calm[i] < f64::MAX { calm[i] } else { any[i] })
+    }
+}

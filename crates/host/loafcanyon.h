@@ -1,7 +1,7 @@
 /* The outliner's calls for C. Link target/staticlib/libhost.a, which `rt staticlib host` writes.
  *
  * A slice is a pointer and a count of elements. Lent memory must not overlap. A pointer for a count of 0 must still not be null.
- * Every call answers with a number, 0 for done; docs/PROMISES.md says what each call's contract is.
+ * Every call but loafcanyon_part answers with a number, 0 for done; docs/PROMISES.md says what each call's contract is.
  * Stack: listing takes at most 144 KB, the tree, which lists, 416 KB, painting 528 KB, every other call 8 KB.
  */
 #ifndef LOAFCANYON_H

@@ -1,6 +1,6 @@
 -- The piece of a level line in one cell, and the call. Assumes nothing.
--- Definitions: `isZero`, `same` tests on whole numbers; `ratio` their quotient as a float, `within` it lies from 0 to 1; `b`, `c`, `d`, `s` of the cell's corners by place; `met` the level meets
---   the saddle; `centre`, `delta`; `pieceOf` which piece it is; `caseNumber`, `caseValues` the paper's number and values of each case; `pieceRows`, `pieceVerdict`, `pieceAnswer` the call.
+-- Definitions: `isZero` a whole number is 0; `ratio` a quotient as a float, `within` it lies from 0 to 1; `b`, `c`, `d`, `s` of the cell's corners by place; `met` an edgel of the
+--   cell is crossed; `centre`, `delta`; `pieceOf` which piece it is; `caseNumber`, `caseValues` the paper's number and values of each case; `pieceRows`, `pieceVerdict`, `pieceAnswer` the call.
 use mathlib.Core.Bool.{Bool, true, false, not, _&&_, _||_, cond}
 use mathlib.Core.List.{List, [], _∷_}
 use Prim.Native.Nat.{ℕ, suc, _+_, _*_}
@@ -22,9 +22,6 @@ use Rattle.piece.specs.declared.Piece.the-variants.{Refused, Straight, C
 abbrev pub isZero : ℤ → Bool
 isZero (pos n) = eqb n 0
 isZero (negsuc n) = false
-
-abbrev pub same : ℤ → ℤ → Bool
-same a b = isZero (a -ℤ b)
 
 -- one division of exact whole numbers, the divisor made positive first, so that zero is +0 (01, The piece in one cell)
 abbrev pub ratio : ℤ → ℤ → Float

@@ -7,3 +7,4 @@ pub mod DemandThree
 pub mod DemandTwoList
 pub mod DemandTwoPaint
 pub mod DemandTwoFile
+pub mod DemandTwoCalls

@@ -1,5 +1,5 @@
 -- The paper's small pictures (a) to (j), as one table. Assumes nothing.
--- Definitions: `Shown` what a row of the table compares: lines, tree entries, case numbers of a piece, refusal numbers; `shown` worked out from the definitions; `expected` as the paper has it.
+-- Definitions: `dot`, `hole`, `pair`, `flat` the pictures; `shown` the table, each row lines, tree entries, case numbers of a piece or refusal numbers, worked out from the definitions; `expected` as the paper has it.
 use mathlib.Core.Bool.{Bool, true, false}
 use mathlib.Core.List.{List, [], _∷_, _++_}
 use Prim.Native.Nat.{ℕ, _*_}
@@ -39,7 +39,7 @@ shown =
     ∷ (entries eight pair (0 ∷ 1 ∷ []) ∷ [])
     ∷ ((caseNumber (pieceAnswer pair 0 1 1 eight .piece) ∷ caseNumber (pieceAnswer pair 1 1 1 eight .piece) ∷ []) ∷ [])
     ∷ ((listVerdict eight (flat 2 2) (254 ∷ []) (replicate 4 0) [] .number ∷ listVerdict eight (flat 2 2) (255 ∷ []) (replicate 4 0) [] .number ∷ []) ∷ [])
-    ∷ ((frameVerdict eight (flat 2048 2) (replicate 4096 0) .number ∷ frameVerdict eight (flat 2049 2) (replicate 4098 0) .number ∷ frameVerdict eight (flat 2 2049) (replicate 4098 0) .number ∷ []) ∷ [])
+    ∷ ((frameVerdict eight (flat 2048 2) (replicate 4096 0) .number ∷ frameVerdict eight (flat 2 2048) (replicate 4096 0) .number ∷ frameVerdict eight (flat 2049 2) (replicate 4098 0) .number ∷ frameVerdict eight (flat 2 2049) (replicate 4098 0) .number ∷ []) ∷ [])
     ∷ []
 
 -- (a) to (j) (01, Small pictures to hold by proof)
@@ -56,5 +56,5 @@ expected =
     ∷ ((0 ∷ 1 ∷ 1 ∷ []) ∷ [])
     ∷ ((3 ∷ 2 ∷ []) ∷ [])
     ∷ ((0 ∷ 3 ∷ []) ∷ [])
-    ∷ ((0 ∷ 1 ∷ 1 ∷ []) ∷ [])
+    ∷ ((0 ∷ 0 ∷ 1 ∷ 1 ∷ []) ∷ [])
     ∷ []

@@ -1,6 +1,7 @@
 -- Line n of the word list: where it stands, and the flags before it. Assumes nothing.
 -- Definitions: `wordsBefore L P ks n` the words of the lines below n.
--- Main laws: `listed-part` the list is the words before line n, those of line n, and the rest; `flags-before` there are n flags before it; `before-all` the words before line `lineCount` are the list.
+-- Main laws: `listed-part` the list is the words before line n, those of line n, and the rest; `flags-before` there are n flags before it; `before-all` the words before line `lineCount` are the list; `narrow-at`, `long-at` a
+--   line's level and codes fit a word, and it has crossings.
 use mathlib.Core.Path.{_≡_, refl, sym, ap, _∙_}
 use mathlib.Core.Bool.{true}
 use mathlib.Core.List.{List, [], _∷_, _++_, map, append-nil}
@@ -66,7 +67,7 @@ module _ {L : Layout} {P : Picture} {ks : List ℕ} (S : Setting L P ks) where
   unfolding wordsBefore
   before-all = ap (λ (z : List ℕ). flat (map (lineWords L P) z)) (take-length all) ∙ firsts-words L P (S .fits .room) ks
 
-  narrow-at : (n : ℕ) → n < lineCount L P ks → Narrow L (levelAt L P ks n) (crossingsAt L P ks n)
+  pub narrow-at : (n : ℕ) → n < lineCount L P ks → Narrow L (levelAt L P ks n) (crossingsAt L P ks n)
   unfolding lineOf
   narrow-at n a =
       let M = lineOf S n a in
@@ -75,7 +76,7 @@ module _ {L : Layout} {P : Picture} {ks : List ℕ} (S : Setting L P ks) where
         codes = λ c h. omega (arith, S .fits .room, line-low P (S .border) (M .lvl) (M .lead) c (lead-cut S M) h);
       }
 
-  long-at : (n : ℕ) → n < lineCount L P ks → 0 < length (crossingsAt L P ks n)
+  pub long-at : (n : ℕ) → n < lineCount L P ks → 0 < length (crossingsAt L P ks n)
   unfolding lineOf
   long-at n a = let M = lineOf S n a in line-long P (S .border) (M .lvl) (M .lead) (M .leads)
 

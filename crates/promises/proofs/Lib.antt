@@ -4,6 +4,8 @@ pub mod NoNan
 pub mod DemandOne
 pub mod RefusedExactly
 pub mod DemandThree
+pub mod DemandThreeWords
+pub mod DemandThreeBorder
 pub mod DemandTwoList
 pub mod DemandTwoPaint
 pub mod DemandTwoFile

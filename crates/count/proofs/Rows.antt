@@ -1,6 +1,6 @@
 -- Counting by rows of steps. Assumes nothing.
 -- Definitions: `Counted` the rows above row y are counted, and a buffer holds the steps of row y.
--- Main laws: `row-none`, `row-more` a row of steps is filled one by one; `gap-most`, `gaps-most` how large a sum of distances is; `gaps-more` one more of them; `start`, `go`, `end` the first row, one row more, and the last; `below` the row below lies within.
+-- Main laws: `row-none`, `row-more` a row of steps is filled one by one; `gaps-none`, `gaps-more` a row of distances likewise; `gaps-both` the sums of two such rows; `part-none`, `part-more`, `part-piece` a sum one by one and piece by piece; `start`, `go`, `end` the first row, one row more, and the last; `below` the row below lies within.
 use mathlib.Core.Path.{_≡_, refl, sym, ap, subst, _∙_}
 use mathlib.Core.Bool.{true}
 use mathlib.Core.List.{List}
@@ -14,12 +14,12 @@ use lib.Seq.{getD-set-same, getD-set-other}
 use borrow.Author.Tests.{eqb-true, eqb-false}
 use Rattle.tally.specs.Tally.{apart, sum}
 use Rattle.tally.proofs.Test.{by-test}
-use Rattle.tally.proofs.Sum.{sum-same, sum-next, sum-cut}
+use Rattle.tally.proofs.Sum.{sum-same, sum-next, sum-plus, sum-cut}
 use Rattle.matte.specs.Layout.{eight}
 use Rattle.matte.specs.Picture.{Picture, size, at, levelsFit}
 use Rattle.outline.specs.List.{listed}
 use Rattle.refuse.specs.Shape.{Ground}
-use Rattle.count.specs.Steps.{steps, stepTable, Row, gaps, places}
+use Rattle.count.specs.Steps.{steps, stepTable, Row, Gaps, gaps, places}
 use Rattle.count.proofs.Steps.{table-at, listed-places, row-end}
 
 -- ---- one row of steps
@@ -42,29 +42,49 @@ row-more t px q from x v R h b e =
       entry = stored (λ c y. (getD px (from + c) 0 < 256) × (y ≡ getD t (getD px (from + c) 0) 0)) q x v (omega (arith, R .room)) (R .entry) (b, e);
     }
 
--- ---- sums of distances
-module _ (p q : List ℕ) where
-  pub gaps-none : (a : ℕ) → 0 ≡ sum (λ i. gaps p q (a + i)) (a - a)
-  unfolding sum
-  gaps-none a = let s : a - a ≡ 0 = omega arith in rw s
+-- ---- a row of distances
+pub gaps-none : (p q d : List ℕ) (s : ℕ) → length d ≡ 2048 → Gaps p q s 0 d
+gaps-none p q d s e = record { room = e; entry = λ x h. absurd (omega arith) }
 
-  pub gaps-more : (a x n r : ℕ) → a ≤ x → n ≡ sum (λ i. gaps p q (a + i)) (x - a) → r ≡ gaps p q x → n + r ≡ sum (λ i. gaps p q (a + i)) (x + 1 - a)
-  gaps-more a x n r h e f =
-      let g : ℕ → ℕ = λ i. gaps p q (a + i) in
+pub gaps-more : (p q d : List ℕ) (s x v : ℕ) → Gaps p q s x d → x < 2048 → v ≡ apart (getD p x 0) (getD q (x + s) 0) → Gaps p q s (x + 1) (set d x v)
+gaps-more p q d s x v R h e =
+    record {
+      room = simp length-set (R .room);
+      entry = stored (λ c y. y ≡ apart (getD p c 0) (getD q (c + s) 0)) d x v (omega (arith, R .room)) (R .entry) e;
+    }
+
+-- the sums along the row and to the row below make up the distances
+pub gaps-both : (p q d f : List ℕ) (end n m : ℕ) → Gaps p p 1 end d → Gaps p q 0 end f → n ≡ sum (λ i. getD d i 0) end → m ≡ sum (λ i. getD f i 0) end → n + m ≡ sum (gaps p q) end
+gaps-both p q d f end n m D F a b =
+    let g : ℕ → ℕ = λ i. apart (getD p i 0) (getD p (i + 1) 0) in
+    let h : ℕ → ℕ = λ i. apart (getD p i 0) (getD q i 0) in
+    ap (λ (z : ℕ). z + m) (a ∙ sum-same (λ i. getD d i 0) g end (D .entry))
+    ∙ ap (λ (z : ℕ). sum g end + z) (b ∙ sum-same (λ i. getD f i 0) h end (λ i l. F .entry i l ∙ ap (λ (z : ℕ). apart (getD p i 0) (getD q z 0)) (add-zero i)))
+    ∙ sym (sum-plus g h end)
+
+-- ---- sums by pieces
+module _ (g : ℕ → ℕ) where
+  pub part-none : (a : ℕ) → 0 ≡ sum (λ i. g (a + i)) (a - a)
+  unfolding sum
+  part-none a = let s : a - a ≡ 0 = omega arith in rw s
+
+  pub part-more : (a x n : ℕ) → a ≤ x → n ≡ sum (λ i. g (a + i)) (x - a) → n + g x ≡ sum (λ i. g (a + i)) (x + 1 - a)
+  part-more a x n h e =
+      let f : ℕ → ℕ = λ i. g (a + i) in
       let s : x + 1 - a ≡ x - a + 1 = omega arith in
       let t : a + (x - a) ≡ x = omega arith in
-      ap (λ (z : ℕ). z + r) e
-      ∙ ap (λ (z : ℕ). sum g (x - a) + z) (f ∙ ap (gaps p q) (sym t))
-      ∙ sym (sum-next g (x - a))
-      ∙ ap (sum g) (sym s)
+      ap (λ (z : ℕ). z + g x) e
+      ∙ ap (λ (z : ℕ). sum f (x - a) + z) (ap g (sym t))
+      ∙ sym (sum-next f (x - a))
+      ∙ ap (sum f) (sym s)
 
-  pub gaps-piece : (a e n r : ℕ) → a ≤ e → n ≡ sum (gaps p q) a → r ≡ sum (λ i. gaps p q (a + i)) (e - a) → n + r ≡ sum (gaps p q) e
-  gaps-piece a e n r h u v =
+  pub part-piece : (a e n r : ℕ) → a ≤ e → n ≡ sum g a → r ≡ sum (λ i. g (a + i)) (e - a) → n + r ≡ sum g e
+  part-piece a e n r h u v =
       let t : a + (e - a) ≡ e = omega arith in
       ap (λ (z : ℕ). z + r) u
-      ∙ ap (λ (z : ℕ). sum (gaps p q) a + z) v
-      ∙ sym (sum-cut (gaps p q) a (e - a))
-      ∙ ap (sum (gaps p q)) t
+      ∙ ap (λ (z : ℕ). sum g a + z) v
+      ∙ sym (sum-cut g a (e - a))
+      ∙ ap (sum g) t
 
 -- ---- row after row
 pub record Counted (P : Picture) (ks t p : List ℕ) (y from n : ℕ) : Type 0 where
@@ -73,7 +93,7 @@ pub record Counted (P : Picture) (ks t p : List ℕ) (y from n : ℕ) : Type 0 w
   pub start : from ≡ y * P .w
   pub row : Row t (P .px) from (P .w) p
   pub count : n ≡ sum (places P ks) from
-  pub most : n ≤ 65535 * from
+  pub most : n ≤ 510 * from
 
 module _ (P : Picture) (G : Ground P) (ks t : List ℕ) where
   abbrev S : ℕ → ℕ
@@ -108,7 +128,7 @@ module _ (P : Picture) (G : Ground P) (ks t : List ℕ) where
         ∙ ap (λ (k : ℕ). sum (places P ks) from + k)
         (sum-next g v ∙ ap (λ (k : ℕ). sum g v + k) z ∙ add-zero (sum g v) ∙ sum-same g (gaps p q) v (λ x l. rw (row-at p from x (from + x) (C .table) (C .row) (omega arith) refl, row-at p from (x + 1) (from + x + 1) (C .table) (C .row) (omega arith) (omega arith), row-at q (from + P .w) x (from + x + P .w) (C .table) R (omega arith) (omega arith))))
 
-    pub go : (q : List ℕ) (z f r : ℕ) → y + 1 < P .h → z ≡ y + 1 → f ≡ from + P .w → Row t (P .px) f (P .w) q → r ≡ sum (gaps p q) (P .w - 1) → r ≤ 65535 * P .w
+    pub go : (q : List ℕ) (z f r : ℕ) → y + 1 < P .h → z ≡ y + 1 → f ≡ from + P .w → Row t (P .px) f (P .w) q → r ≡ sum (gaps p q) (P .w - 1) → r ≤ 510 * P .w
         → Counted P ks t q z f (n + r)
     go q z f r h a b R e m =
         let R₁ : Row t (P .px) (from + P .w) (P .w) q = subst (λ (k : ℕ). Row t (P .px) k (P .w) q) b R in

@@ -1,5 +1,5 @@
 -- Samples by how many listed levels they are high at. Assumes nothing.
--- Definitions: `steps ks s` how many listed levels the sample s is high at; `stepTable` the same for all bytes; `Row` a buffer begins with the steps of a row; `gaps` how far the steps of a
+-- Definitions: `steps ks s` how many listed levels the sample s is high at; `stepTable` the same for all bytes; `Row` a buffer begins with the steps of a row; `Gaps` one begins with the distances of two rows; `gaps` how far the steps of a
 --   sample are from those of its right neighbour and of the one below; `places` the same at a place of a picture.
 use mathlib.Core.Path.{_≡_}
 use mathlib.Core.List.{List}
@@ -21,6 +21,11 @@ stepTable ks = build (steps ks) 0 256
 pub record Row (t px : List ℕ) (from w : ℕ) (q : List ℕ) : Type 0 where
   pub room : length q ≡ 2048
   pub entry : (x : ℕ) → x < w → (getD px (from + x) 0 < 256) × (getD q x 0 ≡ getD t (getD px (from + x) 0) 0)
+
+-- d begins with the distances of p's first `end` elements from those of q, taken s places on
+pub record Gaps (p q : List ℕ) (s end : ℕ) (d : List ℕ) : Type 0 where
+  pub room : length d ≡ 2048
+  pub entry : (x : ℕ) → x < end → getD d x 0 ≡ apart (getD p x 0) (getD q (x + s) 0)
 
 -- p a row of steps, q the row below: the distances from p's element x to the next one and to q's
 abbrev pub gaps : List ℕ → List ℕ → ℕ → ℕ

@@ -8,7 +8,7 @@ ghost use Rattle.matte.specs.Layout.{eight};
 ghost use Rattle.matte.specs.Picture.{picture, levelsFit};
 ghost use Rattle.outline.specs.List.{listed};
 ghost use Rattle.refuse.specs.Shape.{Ground};
-ghost use Rattle.count.specs.Steps.{steps, stepTable, Row, gaps};
+ghost use Rattle.count.specs.Steps.{steps, stepTable, Row, Gaps, gaps};
 
 // How far two steps are apart.
 fn gap(a: u8, b: u8) -> u8
@@ -60,33 +60,64 @@ fn row_steps(t: &[u8; 256], px: &[u8], from: usize, w: usize, q: &mut [u8; 2048]
     }
 }
 
-// The distances at the places a to e - 1 of a row, at most 128 of them.
-fn short_sum(p: &[u8; 2048], q: &[u8; 2048], a: usize, e: usize) -> u16
-    requires { ⌜ (a ≤ e) × (e ≤ a + 128) × (e < 2048) ⌝ }
-    ensures { λ r. ⌜ (r ≡ sum (λ i. gaps (now (p .entry)) (now (q .entry)) (a + i)) (e - a)) × (r ≤ 65535) ⌝ }
+// How far the first `end` elements of p are from those of q, taken s places on.
+fn gap_row(p: &[u8; 2048], q: &[u8; 2048], s: usize, end: usize, d: &mut [u8; 2048])
+    requires { ⌜ (s ≤ 1) × (end + s ≤ 2048) × (length (now d) ≡ 2048) ⌝ }
+    ensures { λ r. ⌜ Gaps (now (p .entry)) (now (q .entry)) s end (now (d .exit)) ⌝ }
+{
+    let mut x: usize = 0;
+    while x < end {
+        d[x] = gap(p[x], q[x + s]);
+        x += 1;
+    }
+}
+
+// A byte as a wider number.
+fn wide(v: u8) -> u16
+    ensures { λ r. ⌜ (r ≡ v) × (r ≤ 255) ⌝ }
+{
+    v as u16
+}
+
+// The sum of the elements a to e - 1, at most 256 of them.
+fn short_sum(d: &[u8; 2048], a: usize, e: usize) -> u16
+    requires { ⌜ (a ≤ e) × (e ≤ a + 256) × (e ≤ 2048) ⌝ }
+    ensures { λ r. ⌜ (r ≡ sum (λ i. getD (now (d .entry)) (a + i) 0) (e - a)) × (r ≤ 255 * (e - a)) ⌝ }
 {
     let mut n: u16 = 0;
     let mut x = a;
     while x < e {
-        n += gap(p[x], p[x + 1]) as u16 + gap(p[x], q[x]) as u16;
+        n += wide(d[x]);
         x += 1;
     }
     n
 }
 
-// The distances at a row's places but its last.
-fn row_sum(p: &[u8; 2048], q: &[u8; 2048], w: usize) -> usize
-    requires { ⌜ (1 ≤ w) × (w ≤ 2048) ⌝ }
-    ensures { λ r. ⌜ (r ≡ sum (gaps (now (p .entry)) (now (q .entry))) (w - 1)) × (r ≤ 65535 * w) ⌝ }
+// The sum of the first `end` elements.
+fn long_sum(d: &[u8; 2048], end: usize) -> usize
+    requires { ⌜ end ≤ 2048 ⌝ }
+    ensures { λ r. ⌜ (r ≡ sum (λ i. getD (now (d .entry)) i 0) end) × (r ≤ 255 * end) ⌝ }
 {
-    let end = w - 1;
     let mut n: usize = 0;
     let mut a: usize = 0;
-    while a + 128 < end {
-        n += short_sum(p, q, a, a + 128) as usize;
-        a += 128;
+    while a + 256 < end {
+        n += short_sum(d, a, a + 256) as usize;
+        a += 256;
     }
-    n + short_sum(p, q, a, end) as usize
+    n + short_sum(d, a, end) as usize
+}
+
+// The distances at a row's places but its last, those along the row and those to the row below one after the other.
+fn row_sum(p: &[u8; 2048], q: &[u8; 2048], w: usize) -> usize
+    requires { ⌜ (1 ≤ w) × (w ≤ 2048) ⌝ }
+    ensures { λ r. ⌜ (r ≡ sum (gaps (now (p .entry)) (now (q .entry))) (w - 1)) × (r ≤ 510 * w) ⌝ }
+{
+    let end = w - 1;
+    let mut d = [0u8; 2048];
+    gap_row(p, p, 1, end, &mut d);
+    let n = long_sum(&d, end);
+    gap_row(p, q, 0, end, &mut d);
+    n + long_sum(&d, end)
 }
 
 // The words of the list, row by row: each row of steps is looked up once and compared with the one above it.

@@ -1,7 +1,7 @@
 -- Blocks of 64 places: their bounds, and which of them hold no fresh place. Assumes nothing.
 -- Definitions: `Finding` the first fresh place of a block among those looked at.
 -- Main laws: `lows-none`, `lows-more`, `highs-none`, `highs-more` the bounds of one block more; `dead-block` a block whose bounds do not enclose the level holds no fresh place; `any-more` one test more of many; `find-begin`,
---   `find-go`, `find-end` the search inside a block; `none-in`, `in-later` a block with no fresh place, and the first one from an offset on; `from-over` the first past numbers that fail; `bare-block`, `bare-dead` no fresh place up to the next block, or over blocks that are not live.
+--   `find-go`, `find-end` the search inside a block; `none-in`, `in-later` a block with no fresh place, and the first one from an offset on; `from-over` the first past numbers that fail; `bare-block`, `bare-dead`, `bare-next` no fresh place up to the next block, over blocks that are not live, or up to the next live one; `all-bare` the search goes on behind all blocks.
 use mathlib.Core.Path.{_≡_, refl, sym, ap, _∙_}
 use mathlib.Core.Bool.{Bool, true, false, not, _&&_, cond}
 use mathlib.Core.List.{List}
@@ -173,3 +173,13 @@ module _ (px work lo hi : List ℕ) (k blocks : ℕ) (B : Blocks px lo hi blocks
       let v : b ≤ j / 64 = omega arith in
       let w : j / 64 < c = omega arith in
       ap (fresh px work k) (sym (split j)) ∙ dead-block px work lo hi k (j / 64) blocks (B .lows) (B .highs) (omega arith) (q (j / 64) v w) (j % 64) (omega arith))
+
+  -- up to the next live block, or the end
+  pub bare-next : (from b r : ℕ) → r ≤ blocks → Bare from b → r ≤ firstFrom (liveAt lo hi k) b (blocks - b) → Bare from r
+  bare-next from b r h z e =
+      bare-dead from b r h z (λ d u v. from-before (liveAt lo hi k) b (blocks - b) d u (omega arith))
+
+  -- over all blocks
+  pub all-bare : (from : ℕ) → from ≤ 64 * blocks → Bare from blocks
+      → firstFrom (fresh px work k) (64 * blocks) (length px - 1 - 64 * blocks) ≡ firstFrom (fresh px work k) from (length px - 1 - from)
+  all-bare from h z = from-over (fresh px work k) from (64 * blocks) (length px - 1) h (omega (arith, B .inside)) z

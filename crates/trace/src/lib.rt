@@ -1,4 +1,5 @@
 // Listing: all lines of all levels, in order, as words.
+mod bounds;
 mod line;
 mod scan;
 mod search;

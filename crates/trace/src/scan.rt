@@ -1,7 +1,6 @@
 // The lines of one level in the order of their leads, and of all levels.
+use crate::bounds::bounds;
 use crate::line::trace_line;
-use crate::search::highs;
-use crate::search::lows;
 use crate::search::search;
 ghost use mathlib.Core.Path.{_≡_};
 ghost use mathlib.Core.Bool.{Bool, true, false, not, _&&_};
@@ -71,8 +70,7 @@ pub fn all_levels(
     let blocks = (px.len() - 1) / 64;
     let mut lo = [0u8; 65536];
     let mut hi = [0u8; 65536];
-    lows(px, &mut lo, blocks);
-    highs(px, &mut hi, blocks);
+    bounds(px, &mut lo, &mut hi, blocks);
     let mut s = Written { words: 0, lines: 0 };
     let mut j: usize = 0;
     while j < ks.len() {

@@ -1,4 +1,6 @@
 // The next place whose horizontal edgel is crossed and not visited yet.
+use crate::bounds::greater;
+use crate::bounds::lesser;
 use count::one_if;
 ghost use mathlib.Core.Path.{_≡_};
 ghost use mathlib.Core.Bool.{Bool, true, false, not, _&&_, cond};
@@ -8,71 +10,7 @@ ghost use lib.Dec.{eqb, ltb, leb};
 ghost use lib.ListN.{length, getD};
 ghost use Rattle.tally.specs.Tally.{differ, every, firstFrom};
 ghost use Rattle.trace.specs.Trace.{fresh};
-ghost use Rattle.trace.specs.Search.{Lows, Highs, Blocks, liveAt, FirstIn};
-
-fn lesser(a: u8, b: u8) -> u8
-    ensures { λ r. ⌜ r ≡ min a b ⌝ }
-{
-    if a < b { a } else { b }
-}
-
-fn greater(a: u8, b: u8) -> u8
-    ensures { λ r. ⌜ r ≡ max a b ⌝ }
-{
-    if a < b { b } else { a }
-}
-
-// The least of the 65 samples from a on.
-fn low64(px: &[u8], a: usize) -> u8
-    requires { ⌜ (a + 64 < length (now px)) × (length (now px) ≤ 4194304) ⌝ }
-    ensures { λ r. ⌜ ((i : ℕ) → i ≤ 64 → r ≤ getD (now (px .entry)) (a + i) 0) ⌝ }
-{
-    let mut m = px[a + 64];
-    let mut i: usize = 0;
-    while i < 64 {
-        m = lesser(m, px[a + i]);
-        i += 1;
-    }
-    m
-}
-
-// The greatest of the 65 samples from a on.
-fn high64(px: &[u8], a: usize) -> u8
-    requires { ⌜ (a + 64 < length (now px)) × (length (now px) ≤ 4194304) ⌝ }
-    ensures { λ r. ⌜ ((i : ℕ) → i ≤ 64 → getD (now (px .entry)) (a + i) 0 ≤ r) ⌝ }
-{
-    let mut m = px[a + 64];
-    let mut i: usize = 0;
-    while i < 64 {
-        m = greater(m, px[a + i]);
-        i += 1;
-    }
-    m
-}
-
-// A lower bound for each block.
-pub fn lows(px: &[u8], lo: &mut [u8; 65536], blocks: usize)
-    requires { ⌜ (64 * blocks < length (now px)) × (length (now px) ≤ 4194304) × (length (now lo) ≡ 65536) ⌝ }
-    ensures { λ r. ⌜ Lows (now (px .entry)) (now (lo .exit)) blocks ⌝ }
-{
-    let mut b: usize = 0;
-    while b < blocks {
-        lo[b] = low64(px, 64 * b);
-        b += 1;
-    }
-}
-
-// An upper bound for each block.
-pub fn highs(px: &[u8], hi: &mut [u8; 65536], blocks: usize)
-    requires { ⌜ (64 * blocks < length (now px)) × (length (now px) ≤ 4194304) × (length (now hi) ≡ 65536) ⌝ }
-    ensures { λ r. ⌜ Highs (now (px .entry)) (now (hi .exit)) blocks ⌝ }
-{
-    let mut b: usize = 0;
-    while b < blocks {
-        hi[b] = high64(px, 64 * b);
-        b += 1;
-    }
-}
+ghost use Rattle.trace.specs.Search.{Blocks, liveAt, FirstIn};
 
 // The horizontal edgel between samples a and b is crossed at k, and its byte m is not the level's mark.
 fn is_fresh(a: u8, b: u8, m: u8, k: u8, mark: u8) -> bool
@@ -249,13 +187,17 @@ pub fn search(
     if i < 64 {
         return 64 * first + i as usize;
     }
-    let mut b = next_live(lo, hi, first + 1, blocks, k);
+    let mut b = first + 1;
     while b < blocks {
-        let j = seen_in(px, work, 64 * b, k, mark);
-        if j < 64 {
-            return 64 * b + j as usize;
+        let c = next_live(lo, hi, b, blocks, k);
+        if blocks <= c {
+            return tail(px, work, k, 64 * blocks);
         }
-        b = next_live(lo, hi, b + 1, blocks, k);
+        let j = seen_in(px, work, 64 * c, k, mark);
+        if j < 64 {
+            return 64 * c + j as usize;
+        }
+        b = c + 1;
     }
     tail(px, work, k, 64 * blocks)
 }

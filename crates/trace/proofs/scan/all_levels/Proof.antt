@@ -24,24 +24,19 @@ abbrev μ-loop : tie.MeasureT-loop
 sub-blocks : tie.Need-sub-blocks Inv-loop μ-loop
 sub-blocks c = some (c .before .before .before .before .pre .ground)
 
-lows-requires : tie.Need-lows-requires Inv-loop μ-loop
-lows-requires c κs =
-    let G = c .before .before .before .before .before .pre .ground in
-    (omega (arith, some G), area-most G, length-replicate {A = ℕ} 65536 0)
-
-highs-requires : tie.Need-highs-requires Inv-loop μ-loop
-highs-requires c κs =
-    let G = c .before .before .before .before .before .before .before .pre .ground in
-    (omega (arith, some G), area-most G, length-replicate {A = ℕ} 65536 0)
+bounds-requires : tie.Need-bounds-requires Inv-loop μ-loop
+bounds-requires c κs =
+    let G = c .before .before .before .before .before .before .pre .ground in
+    (omega (arith, some G), area-most G, length-replicate {A = ℕ} 65536 0, length-replicate {A = ℕ} 65536 0)
 
 loop-holds : tie.Need-loop-holds Inv-loop μ-loop
 loop-holds c =
-    let z = c .before .before .before .before .before .before .before .before in
+    let z = c .before .before .before .before .before .before .before in
     let a = z .args in (
       refl,
       refl,
       λ R. all-begin (picture (a .w) (a .h) (a .px .now)) (a .ks .now) (a .work .now) (a .words .now) R,
-      record { inside = omega (arith, some (z .pre .ground)); few = area-most (z .pre .ground); lows = c .before .before .lows .ensures; highs = c .highs .ensures },
+      record { inside = omega (arith, some (z .pre .ground)); few = area-most (z .pre .ground); lows = c .bounds .ensures .0; highs = c .bounds .ensures .1 },
     )
 
 shared-slice-read-k : tie.Need-shared-slice-read-k Inv-loop μ-loop
@@ -49,21 +44,21 @@ shared-slice-read-k c = omega (arith, c .before .loop-test .taken)
 
 level-lines-requires : tie.Need-level-lines-requires Inv-loop μ-loop
 level-lines-requires c κs =
-    let z = c .before .before .before .before .before .before .before .before .before .before .before .before .before .before .before in
+    let z = c .before .before .before .before .before .before .before .before .before .before .before .before .before .before in
     let a = z .args in
     let R = z .pre in
     let l = c .before .before .before .before .before .before .loop in
     (level-ready (picture (a .w) (a .h) (a .px .now)) (a .ks .now) (a .work .now) (a .words .now) R (l .j) (c .before .before .before .before .before .loop-test .taken) (l .s) (l .work) (l .words) (l .inv .2 R) (l .inv .1), l .inv .3)
 
 add-j : tie.Need-add-j Inv-loop μ-loop
-add-j c = omega (arith, c .before .before .before .before .before .before .before .before .before .before .loop-test .taken, c .before .before .before .before .before .before .before .before .before .before .before .before .before .before .before .before .before .before .before .before .good .1 .1 .1 .0 .0)
+add-j c = omega (arith, c .before .before .before .before .before .before .before .before .before .before .loop-test .taken, c .before .before .before .before .before .before .before .before .before .before .before .before .before .before .before .before .before .before .before .good .1 .1 .1 .0 .0)
 
 loop-less : tie.Need-loop-less Inv-loop μ-loop
 loop-less c = omega (arith, c .before .before .before .before .before .before .before .before .before .before .loop-test .taken)
 
 loop-again : tie.Need-loop-again Inv-loop μ-loop
 loop-again c =
-    let z = c .before .before .before .before .before .before .before .before .before .before .before .before .before .before .before .before .before .before .before .before in
+    let z = c .before .before .before .before .before .before .before .before .before .before .before .before .before .before .before .before .before .before .before in
     let a = z .args in
     let R = z .pre in
     let l = c .before .before .before .before .before .before .before .before .before .before .before .loop in
@@ -82,7 +77,7 @@ same-length-2 c = c .before .loop .inv .1
 
 returns : tie.Need-returns Inv-loop μ-loop
 returns c =
-    let z = c .before .before .before .before .before .before .before .before .before .before in
+    let z = c .before .before .before .before .before .before .before .before .before in
     let a = z .args in
     let R = z .pre in
     let l = c .before .loop in
@@ -95,8 +90,7 @@ all-levels-spec =
     Inv-loop
     μ-loop
     sub-blocks
-    lows-requires
-    highs-requires
+    bounds-requires
     loop-holds
     shared-slice-read-k
     level-lines-requires

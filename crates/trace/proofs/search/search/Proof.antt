@@ -9,10 +9,10 @@ use lib.Dec.{ltb}
 use borrow.Author.Tests.{ltb-true, ltb-false}
 use Rattle.tally.specs.Tally.{firstFrom}
 use Rattle.tally.proofs.Test.{by-test}
-use Rattle.tally.proofs.First.{from-is, from-ge, from-le, from-before}
+use Rattle.tally.proofs.First.{from-is, from-ge}
 use Rattle.trace.specs.Trace.{fresh}
 use Rattle.trace.specs.Search.{Blocks, liveAt}
-use Rattle.trace.proofs.Blocks.{from-over, bare-block, bare-dead}
+use Rattle.trace.proofs.Blocks.{bare-block, bare-next, all-bare}
 use Rattle.trace.proofs.search.search.Statement.{statement}
 use Rattle.trace.proofs.search.search.Tie as tie
 
@@ -76,150 +76,109 @@ returns-2 c =
     ap (fresh (a .px .now) (a .work .now) (a .k)) (sym s) ∙ R .passed (j - 64 * (a .from / 64)) (omega arith) (omega arith))
     (λ t. y .1))
 
-add-next-live : tie.Need-add-next-live Inv-loop μ-loop
-add-next-live c =
-    let z = c .before .before .before .before .before in
-    let a = z .args in
-    let B = z .pre .3 in
-    omega (arith, z .pre .0, B .few)
-
-next-live-requires : tie.Need-next-live-requires Inv-loop μ-loop
-next-live-requires c κs =
-    let z = c .before .before .before .before .before in
-    let a = z .args in
-    let B = z .pre .3 in
-    (omega (arith, c .before .before .if1 .left), omega (arith, B .inside, B .few))
+add-b : tie.Need-add-b Inv-loop μ-loop
+add-b c = omega (arith, c .before .before .before .before .before .pre .0, c .before .before .before .before .before .pre .3 .few)
 
 loop-holds : tie.Need-loop-holds Inv-loop μ-loop
 loop-holds c =
-    let z = c .before .before .before .before .before .before in
-    let a = z .args in
-    let B = z .pre .3 in
-    let R = c .before .before .first-in .ensures in
-    let f = a .from / 64 in
-    let r = c .next-live .result in
-    let g : f + 1 ≤ r = rw (c .next-live .ensures) (from-ge (liveAt (a .lo .now) (a .hi .now) (a .k)) (f + 1) (a .blocks - (f + 1))) in
-    let h : r ≤ f + 1 + (a .blocks - (f + 1)) = rw (c .next-live .ensures) (from-le (liveAt (a .lo .now) (a .hi .now) (a .k)) (f + 1) (a .blocks - (f + 1))) in
-    let t : r ≤ a .blocks = omega (arith, c .before .before .before .if1 .left) in (
-      t,
+    let a = c .before .before .before .before .before .args in
+    let R = c .before .first-in .ensures in (
+      omega (arith, c .before .before .if1 .left),
       omega arith,
-      bare-dead (a .px .now) (a .work .now) (a .lo .now) (a .hi .now) (a .k) (a .blocks) B (a .from) (f + 1) r t
-          (bare-block (a .px .now) (a .work .now) (a .lo .now) (a .hi .now) (a .k) (a .blocks) B (a .from) f (a .from % 64) (λ i u v. R .passed i u (omega (arith, c .before .if2 .left))) (inl (omega arith)))
-          (λ d u v. from-before (liveAt (a .lo .now) (a .hi .now) (a .k)) (f + 1) (a .blocks - (f + 1)) d u (rw (sym (c .next-live .ensures)) v)),
+      bare-block (a .px .now) (a .work .now) (a .lo .now) (a .hi .now) (a .k) (a .blocks) (c .before .before .before .before .before .pre .3) (a .from) (a .from / 64) (a .from % 64) (λ i u v. R .passed i u (omega (arith, c .if2 .left))) (inl (omega arith)),
     )
 
-mul-seen-in : tie.Need-mul-seen-in Inv-loop μ-loop
-mul-seen-in c =
-    let z = c .before .before .before .before .before .before .before .before in
-    let a = z .args in
-    let B = z .pre .3 in
-    omega (arith, c .loop-test .taken, B .inside, B .few)
+next-live-requires : tie.Need-next-live-requires Inv-loop μ-loop
+next-live-requires c κs = let B = c .before .before .before .before .before .before .before .pre .3 in (c .before .loop .inv .0, omega (arith, B .inside, B .few))
 
-seen-in-requires : tie.Need-seen-in-requires Inv-loop μ-loop
-seen-in-requires c κs =
-    let z = c .before .before .before .before .before .before .before .before in
-    let a = z .args in
-    let B = z .pre .3 in
-    (omega (arith, c .loop-test .taken, B .inside), z .pre .1, B .few, refl)
+mul-tail : tie.Need-mul-tail Inv-loop μ-loop
+mul-tail c = let B = c .before .before .before .before .before .before .before .before .before .pre .3 in omega (arith, B .inside, B .few)
 
-mul-result-2 : tie.Need-mul-result-2 Inv-loop μ-loop
-mul-result-2 c =
-    let z = c .before .before .before .before .before .before .before .before .before .before in
-    let a = z .args in
-    let B = z .pre .3 in
-    omega (arith, c .before .before .loop-test .taken, B .inside, B .few)
-
-cast-result-2 : tie.Need-cast-result-2 Inv-loop μ-loop
-cast-result-2 c = omega (arith, c .if3 .taken)
-
-add-result-2 : tie.Need-add-result-2 Inv-loop μ-loop
-add-result-2 c =
-    let z = c .before .before .before .before .before .before .before .before .before .before in
-    let a = z .args in
-    let B = z .pre .3 in
-    omega (arith, c .before .before .loop-test .taken, B .inside, B .few, c .if3 .taken)
+tail-requires-2 : tie.Need-tail-requires-2 Inv-loop μ-loop
+tail-requires-2 c κs = let p = c .before .before .before .before .before .before .before .before .before .pre in (p .3 .inside, p .1, p .2)
 
 returns-3 : tie.Need-returns-3 Inv-loop μ-loop
 returns-3 c =
-    let z = c .before .before .before .before .before .before .before .before .before .before in
-    let a = z .args in
-    let B = z .pre .3 in
-    let l = c .before .before .before .loop in
-    let R = c .before .seen-in .ensures in
-    let i = c .before .seen-in .result in
-    let y = R .found (c .if3 .taken) in
-    sym
-    (from-is (fresh (a .px .now) (a .work .now) (a .k)) (a .from) (length (a .px .now) - 1 - a .from) (64 * l .b + i) (omega (arith, l .inv .1)) (omega (arith, l .inv .1, c .if3 .taken, c .before .before .loop-test .taken, B .inside))
-    (λ j u v. by-test (ltb j (64 * l .b))
-    (λ e. l .inv .2 j u (ltb-true j (64 * l .b) e))
-    (λ e.
-    let x : 64 * l .b ≤ j = ltb-false j (64 * l .b) e in
-    let s : 64 * l .b + (j - 64 * l .b) ≡ j = omega arith in
-    ap (fresh (a .px .now) (a .work .now) (a .k)) (sym s) ∙ R .passed (j - 64 * l .b) (omega arith) (omega arith)))
-    (λ t. y .1))
-
-add-next-live-2 : tie.Need-add-next-live-2 Inv-loop μ-loop
-add-next-live-2 c =
-    let z = c .before .before .before .before .before .before .before .before .before .before in
-    let a = z .args in
-    let B = z .pre .3 in
-    omega (arith, c .before .before .loop-test .taken, B .inside, B .few)
-
-next-live-requires-2 : tie.Need-next-live-requires-2 Inv-loop μ-loop
-next-live-requires-2 c κs =
-    let z = c .before .before .before .before .before .before .before .before .before .before in
-    let a = z .args in
-    let B = z .pre .3 in
-    (omega (arith, c .before .before .loop-test .taken), omega (arith, B .inside, B .few))
-
-loop-less : tie.Need-loop-less Inv-loop μ-loop
-loop-less c =
-    let z = c .before .before .before .before .before .before .before .before .before .before .before in
-    let a = z .args in
-    let B = z .pre .3 in
+    let a = c .before .before .before .before .before .before .before .before .before .before .args in
     let l = c .before .before .before .before .loop in
-    omega (arith, c .before .before .before .loop-test .taken, c .next-live2 .ensures, from-ge (liveAt (a .lo .now) (a .hi .now) (a .k)) (l .b + 1) (a .blocks - (l .b + 1)))
+    let n = c .before .before .next-live in
+    c .tail2 .ensures
+    ∙ all-bare (a .px .now) (a .work .now) (a .lo .now) (a .hi .now) (a .k) (a .blocks) (c .before .before .before .before .before .before .before .before .before .before .pre .3) (a .from) (omega (arith, l .inv .0, l .inv .1))
+    (bare-next (a .px .now) (a .work .now) (a .lo .now) (a .hi .now) (a .k) (a .blocks) (c .before .before .before .before .before .before .before .before .before .before .pre .3) (a .from) (l .b) (a .blocks) (omega arith) (l .inv .2) (omega (arith, c .before .if3 .taken, n .ensures)))
 
-loop-again : tie.Need-loop-again Inv-loop μ-loop
-loop-again c =
-    let z = c .before .before .before .before .before .before .before .before .before .before .before in
-    let a = z .args in
-    let B = z .pre .3 in
-    let l = c .before .before .before .before .loop in
-    let R = c .before .before .seen-in .ensures in
-    let r = c .next-live2 .result in
-    let g : l .b + 1 ≤ r = rw (c .next-live2 .ensures) (from-ge (liveAt (a .lo .now) (a .hi .now) (a .k)) (l .b + 1) (a .blocks - (l .b + 1))) in
-    let h : r ≤ l .b + 1 + (a .blocks - (l .b + 1)) = rw (c .next-live2 .ensures) (from-le (liveAt (a .lo .now) (a .hi .now) (a .k)) (l .b + 1) (a .blocks - (l .b + 1))) in
-    let t : r ≤ a .blocks = omega (arith, c .before .before .before .loop-test .taken) in (
-      t,
-      omega (arith, l .inv .1),
-      bare-dead (a .px .now) (a .work .now) (a .lo .now) (a .hi .now) (a .k) (a .blocks) B (a .from) (l .b + 1) r t
-          (bare-block (a .px .now) (a .work .now) (a .lo .now) (a .hi .now) (a .k) (a .blocks) B (a .from) (l .b) 0 (λ i u v. R .passed i u (omega (arith, c .before .if3 .left))) (inr (refl, l .inv .2)))
-          (λ d u v. from-before (liveAt (a .lo .now) (a .hi .now) (a .k)) (l .b + 1) (a .blocks - (l .b + 1)) d u (rw (sym (c .next-live2 .ensures)) v)),
-    )
+mul-seen-in : tie.Need-mul-seen-in Inv-loop μ-loop
+mul-seen-in c = let B = c .before .before .before .before .before .before .before .before .before .pre .3 in omega (arith, c .if3 .left, B .inside, B .few)
 
-mul-tail : tie.Need-mul-tail Inv-loop μ-loop
-mul-tail c =
-    let z = c .before .before .before .before .before .before .before .before in
-    let a = z .args in
-    let B = z .pre .3 in
-    omega (arith, B .inside, B .few)
+seen-in-requires : tie.Need-seen-in-requires Inv-loop μ-loop
+seen-in-requires c κs = let p = c .before .before .before .before .before .before .before .before .before .pre in (omega (arith, c .if3 .left, p .3 .inside), p .1, p .3 .few, refl)
 
-tail-requires-2 : tie.Need-tail-requires-2 Inv-loop μ-loop
-tail-requires-2 c κs =
-    let z = c .before .before .before .before .before .before .before .before in
-    let a = z .args in
-    let B = z .pre .3 in
-    (B .inside, z .pre .1, z .pre .2)
+mul-result-2 : tie.Need-mul-result-2 Inv-loop μ-loop
+mul-result-2 c = let B = c .before .before .before .before .before .before .before .before .before .before .before .pre .3 in omega (arith, c .before .before .if3 .left, B .inside, B .few)
+
+cast-result-2 : tie.Need-cast-result-2 Inv-loop μ-loop
+cast-result-2 c = omega (arith, c .if4 .taken)
+
+add-result-2 : tie.Need-add-result-2 Inv-loop μ-loop
+add-result-2 c = let B = c .before .before .before .before .before .before .before .before .before .before .before .pre .3 in omega (arith, c .before .before .if3 .left, B .inside, B .few, c .if4 .taken)
 
 returns-4 : tie.Need-returns-4 Inv-loop μ-loop
 returns-4 c =
-    let z = c .before .before .before .before .before .before .before .before .before in
-    let a = z .args in
-    let B = z .pre .3 in
+    let a = c .before .before .before .before .before .before .before .before .before .before .before .args in
+    let B = c .before .before .before .before .before .before .before .before .before .before .before .pre .3 in
+    let l = c .before .before .before .before .before .loop in
+    let n = c .before .before .before .next-live in
+    let r = n .result in
+    let g : l .b ≤ r = rw (n .ensures) (from-ge (liveAt (a .lo .now) (a .hi .now) (a .k)) (l .b) (a .blocks - l .b)) in
+    let d = bare-next (a .px .now) (a .work .now) (a .lo .now) (a .hi .now) (a .k) (a .blocks) B (a .from) (l .b) r (omega (arith, c .before .before .if3 .left)) (l .inv .2) (omega (arith, n .ensures)) in
+    let R = c .before .seen-in .ensures in
+    let i = c .before .seen-in .result in
+    let y = R .found (c .if4 .taken) in
+    sym
+    (from-is (fresh (a .px .now) (a .work .now) (a .k)) (a .from) (length (a .px .now) - 1 - a .from) (64 * r + i) (omega (arith, l .inv .1)) (omega (arith, l .inv .1, c .if4 .taken, c .before .before .if3 .left, B .inside))
+    (λ j u v. by-test (ltb j (64 * r))
+    (λ e. d j u (ltb-true j (64 * r) e))
+    (λ e.
+    let x : 64 * r ≤ j = ltb-false j (64 * r) e in
+    let s : 64 * r + (j - 64 * r) ≡ j = omega arith in
+    ap (fresh (a .px .now) (a .work .now) (a .k)) (sym s) ∙ R .passed (j - 64 * r) (omega arith) (omega arith)))
+    (λ t. y .1))
+
+add-b-2 : tie.Need-add-b-2 Inv-loop μ-loop
+add-b-2 c = let B = c .before .before .before .before .before .before .before .before .before .before .before .pre .3 in omega (arith, c .before .before .if3 .left, B .inside, B .few)
+
+loop-less : tie.Need-loop-less Inv-loop μ-loop
+loop-less c =
+    let a = c .before .before .before .before .before .before .before .before .before .before .before .args in
+    let l = c .before .before .before .before .before .loop in
+    omega (arith, c .before .before .if3 .left, c .before .before .before .next-live .ensures, from-ge (liveAt (a .lo .now) (a .hi .now) (a .k)) (l .b) (a .blocks - l .b))
+
+loop-again : tie.Need-loop-again Inv-loop μ-loop
+loop-again c =
+    let a = c .before .before .before .before .before .before .before .before .before .before .before .args in
+    let B = c .before .before .before .before .before .before .before .before .before .before .before .pre .3 in
+    let l = c .before .before .before .before .before .loop in
+    let n = c .before .before .before .next-live in
+    let r = n .result in
+    let g : l .b ≤ r = rw (n .ensures) (from-ge (liveAt (a .lo .now) (a .hi .now) (a .k)) (l .b) (a .blocks - l .b)) in
+    let d = bare-next (a .px .now) (a .work .now) (a .lo .now) (a .hi .now) (a .k) (a .blocks) B (a .from) (l .b) r (omega (arith, c .before .before .if3 .left)) (l .inv .2) (omega (arith, n .ensures)) in
+    let R = c .before .seen-in .ensures in (
+      omega (arith, c .before .before .if3 .left),
+      omega (arith, l .inv .1),
+      bare-block (a .px .now) (a .work .now) (a .lo .now) (a .hi .now) (a .k) (a .blocks) B (a .from) r 0 (λ i u v. R .passed i u (omega (arith, c .if4 .left))) (inr (refl, d)),
+    )
+
+mul-tail-2 : tie.Need-mul-tail-2 Inv-loop μ-loop
+mul-tail-2 c = let B = c .before .before .before .before .before .before .before .pre .3 in omega (arith, B .inside, B .few)
+
+tail-requires-3 : tie.Need-tail-requires-3 Inv-loop μ-loop
+tail-requires-3 c κs = let p = c .before .before .before .before .before .before .before .pre in (p .3 .inside, p .1, p .2)
+
+returns-5 : tie.Need-returns-5 Inv-loop μ-loop
+returns-5 c =
+    let a = c .before .before .before .before .before .before .before .before .args in
     let l = c .before .before .loop in
-    let e : l .b ≡ a .blocks = omega (arith, c .before .loop-test .left, l .inv .0) in
-    c .tail2 .ensures ∙ from-over (fresh (a .px .now) (a .work .now) (a .k)) (a .from) (64 * a .blocks) (length (a .px .now) - 1) (omega (arith, l .inv .1)) (omega (arith, B .inside)) (λ j u v. l .inv .2 j u (omega arith))
+    c .tail3 .ensures
+    ∙ all-bare (a .px .now) (a .work .now) (a .lo .now) (a .hi .now) (a .k) (a .blocks) (c .before .before .before .before .before .before .before .before .pre .3) (a .from) (omega (arith, l .inv .0, l .inv .1)) (λ j u v. l .inv .2 j u (omega (arith, c .before .loop-test .left)))
 
 pub search-spec : {M : Type 1} → statement M
 search-spec =
@@ -237,19 +196,21 @@ search-spec =
     cast-result
     add-result
     returns-2
-    add-next-live
-    next-live-requires
+    add-b
     loop-holds
+    next-live-requires
+    mul-tail
+    tail-requires-2
+    returns-3
     mul-seen-in
     seen-in-requires
     mul-result-2
     cast-result-2
     add-result-2
-    returns-3
-    add-next-live-2
-    next-live-requires-2
+    returns-4
+    add-b-2
     loop-less
     loop-again
-    mul-tail
-    tail-requires-2
-    returns-4)
+    mul-tail-2
+    tail-requires-3
+    returns-5)

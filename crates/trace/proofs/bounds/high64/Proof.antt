@@ -1,4 +1,4 @@
--- `trace::search::high64` meets its contract: a bound of every sample passed. Assumes nothing.
+-- `trace::bounds::high64` meets its contract: a bound of every sample passed. Assumes nothing.
 use mathlib.Core.Path.{_≡_, refl, sym, ap, _∙_}
 use Prim.Native.Nat.{ℕ, _+_, _-_, _*_, _≤_, _<_}
 use native.Mathlib.Omega.{arith}
@@ -7,8 +7,8 @@ use lib.ListN.{length, getD}
 use borrow.Author.Needs.{needs}
 use borrow.Author.Tests.{eqb-true, eqb-false}
 use Rattle.tally.proofs.Test.{by-test}
-use Rattle.trace.proofs.search.high64.Statement.{statement}
-use Rattle.trace.proofs.search.high64.Tie as tie
+use Rattle.trace.proofs.bounds.high64.Statement.{statement}
+use Rattle.trace.proofs.bounds.high64.Tie as tie
 
 abbrev Inv-loop : tie.InvT-loop
 Inv-loop px a m₀ i₀ m i = (i ≤ 64) × (getD px (a + 64) 0 ≤ m) × ((j : ℕ) → j < i → getD px (a + j) 0 ≤ m)

@@ -36,8 +36,7 @@ pub fn group(run: &mut Run) {
 /// The kilobytes that the header says.
 fn most(call: Call) -> usize {
     match call {
-        Call::List => 144,
-        Call::Tree => 416,
+        Call::List | Call::Tree => 144,
         Call::Paint => 528,
         _ => 8,
     }

@@ -30,8 +30,11 @@ border-of P G = border-fits P (omega (arith, G .sides .h-least)) (G .border)
 pub area-most : {P : Picture} → Ground P → length (P .px) ≤ 4194304
 area-most {P} G = omega (arith, G .whole, mul-le-mul (G .sides .w-most) (G .sides .h-most))
 
+pub four : {P : Picture} → Ground P → 4 ≤ length (P .px)
+four {P} G = omega (arith, G .whole, mul-le-mul (G .sides .w-least) (G .sides .h-least))
+
 pub some : {P : Picture} → Ground P → 0 < length (P .px)
-some {P} G = omega (arith, G .whole, mul-le-mul (G .sides .w-least) (G .sides .h-least))
+some G = omega (arith, four G)
 
 module _ (P : Picture) (G : Ground P) (k : ℕ) where
   abbrev B : Border P

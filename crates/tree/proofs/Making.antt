@@ -1,6 +1,6 @@
 -- The steps of a tree call that is not refused, one after the other, over the lent memory as lists. Assumes nothing.
--- Main laws: `collect-ready`, `notes-ready`, `walk-ready`, `strip-ready` what each step finds; `made` what the last one leaves.
-use mathlib.Core.Path.{_≡_, refl, sym, ap, _∙_}
+-- Main laws: `work-wide` the work bytes hold the samples' number; `collect-ready`, `notes-ready`, `walk-ready`, `strip-ready` what each step finds; `made` what the last one leaves.
+use mathlib.Core.Path.{_≡_, refl, sym, ap, subst, _∙_}
 use mathlib.Core.Bool.{Bool, true, false}
 use mathlib.Core.List.{List, [], _∷_, _++_}
 use Prim.Native.Nat.{ℕ, zero, suc, _+_, _-_, _*_, _/_, _≤_, _<_}
@@ -80,6 +80,9 @@ module _ (P : Picture) (ks work₀ words₀ places₀ : List ℕ) (v : listVerdi
     work-long : length work₁ ≡ length work₀
     work-long = ap length work-is ∙ cleared-length (size P) work₀ (A .wide)
 
+    pub work-wide : length (P .px) ≤ length work₁
+    work-wide = omega (arith, work-long, G .whole, A .wide)
+
     words-long : length words₁ ≡ length words₀
     words-long = ap length list-is ∙ omega (arith, length-append l (drop N words₀), length-drop N words₀, room)
 
@@ -155,20 +158,21 @@ module _ (P : Picture) (ks work₀ words₀ places₀ : List ℕ) (v : listVerdi
                 ∙ ap (λ (z : List ℕ). entries eight P ks ++ z)
                 (ap (drop n) values-is ∙ drop-at (build (valueFor P ks) 0 n) (drop n places₀) n (build-length (valueFor P ks) 0 n))
 
-            -- ---- the list again
-            again : listVerdict eight P ks work₁ words₂ .number ≡ 0
-            again = ap (λ (z : Verdict). z .number) (same-verdict P ks work₀ words₀ work₁ words₂ work-long (k ∙ words-long)) ∙ v
+            -- ---- the list again, with what the notes left in the work bytes
+            module _ (work₂ : List ℕ) (o : drop (length (P .px)) work₂ ≡ drop (length (P .px)) work₁) (u : length work₂ ≡ length work₁) where
+              again : listVerdict eight P ks work₂ words₂ .number ≡ 0
+              again = ap (λ (z : Verdict). z .number) (same-verdict P ks work₀ words₀ work₂ words₂ (u ∙ work-long) (k ∙ words-long)) ∙ v
 
-            pub made : (r : Answer) (work₂ words₃ : List ℕ) → r ≡ listAnswer eight P ks work₁ words₂ → work₂ ≡ listWork eight P ks work₁ words₂
-                → words₃ ≡ listWords eight P ks work₁ words₂ → TreeMade P ks work₀ words₀ places₀ r work₂ words₃ places₃
-            made r work₂ words₃ i j m =
-                let y = listVerdict eight P ks work₁ words₂ in
-                record {
-                  answers = i ∙ done-answer y N (tally (flagged eight) l) again;
-                  work-is =
-                      j
-                      ∙ done-after y work₁ (replicate (size P) 0 ++ drop (size P) work₁) again
-                      ∙ ap (λ (z : List ℕ). replicate (size P) 0 ++ z) (ap (drop (size P)) work-is ∙ cleared-rest (size P) work₀);
-                  words-are = m ∙ done-after y words₂ (l ++ drop N words₂) again ∙ ap (λ (z : List ℕ). l ++ z) rest-is;
-                  places-are = entries-is;
-                }
+              pub made : (r : Answer) (work₃ words₃ : List ℕ) → r ≡ listAnswer eight P ks work₂ words₂ → work₃ ≡ listWork eight P ks work₂ words₂
+                  → words₃ ≡ listWords eight P ks work₂ words₂ → TreeMade P ks work₀ words₀ places₀ r work₃ words₃ places₃
+              made r work₃ words₃ i j m =
+                  let y = listVerdict eight P ks work₂ words₂ in
+                  record {
+                    answers = i ∙ done-answer y N (tally (flagged eight) l) again;
+                    work-is =
+                        j
+                        ∙ done-after y work₂ (replicate (size P) 0 ++ drop (size P) work₂) again
+                        ∙ ap (λ (z : List ℕ). replicate (size P) 0 ++ z) (subst (λ (z : ℕ). drop z work₂ ≡ drop z work₁) (G .whole) o ∙ ap (drop (size P)) work-is ∙ cleared-rest (size P) work₀);
+                    words-are = m ∙ done-after y words₂ (l ++ drop N words₂) again ∙ ap (λ (z : List ℕ). l ++ z) rest-is;
+                    places-are = entries-is;
+                  }

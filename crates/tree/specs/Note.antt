@@ -1,5 +1,5 @@
 -- How the tree call works: steps and running sums, ranks, and the notes that are written at them. Assumes nothing.
--- Definitions: `Table` the steps of every sample; `gapAt` the crossings between a place and the next, `gaps` those before a place, `Starts` those before every 64th; `rankAt` the rank of a
+-- Definitions: `Table` the steps of every sample; `gapAt` the crossings between a place and the next, `gaps` those before a place, `Starts` those before every 8th; `rankAt` the rank of a
 --   crossing; `noteOf` a note as one number, `noteAt` the note of a crossing; `noted`, `notedAll` the word places with the notes of a crossing, of a line; `leadsOf` the leads of a word list.
 use mathlib.Core.Path.{_≡_}
 use mathlib.Core.Bool.{Bool, true, false, not, cond}
@@ -11,6 +11,7 @@ use Rattle.tally.specs.Tally.{one, differ, apart, sum, count, tally, total}
 use Rattle.matte.specs.Layout.{eight}
 use Rattle.matte.specs.Picture.{Picture, levelsFit}
 use Rattle.edgel.specs.Edgel.{horizontal, first}
+use Rattle.block.specs.Block.{num4}
 use Rattle.outline.specs.Line.{cutAt, line}
 use Rattle.refuse.specs.Shape.{Ground}
 use Rattle.enclosure.specs.Tree.{firsts, lineCount, levelAt, leadAt}
@@ -32,10 +33,11 @@ gapAt st px i = apart (getD st (getD px i 0) 0) (getD st (getD px (i + 1) 0) 0)
 unfoldable pub gaps : List ℕ → List ℕ → ℕ → ℕ
 gaps st px i = sum (gapAt st px) i
 
--- those before each 64th place
+-- those before each 8th place, as numbers of four bytes
 pub record Starts (st px starts : List ℕ) : Type 0 where
-  pub tells : (b : ℕ) → 64 * b < length px → getD starts b 0 ≡ gaps st px (64 * b)
-  pub few : (b : ℕ) → 64 * b < length px → getD starts b 0 ≤ 255 * (64 * b)
+  pub room : (b : ℕ) → 8 * b < length px → 4 * b + 4 ≤ length starts
+  pub tells : (b : ℕ) → 8 * b < length px → num4 starts (4 * b) ≡ gaps st px (8 * b)
+  pub few : (b : ℕ) → 8 * b < length px → num4 starts (4 * b) ≤ 255 * (8 * b)
 
 -- the rank of the crossing of level k at the place i: N counts down from the place's upper end, S up from its lower end
 unfoldable pub rankAt : List ℕ → List ℕ → ℕ → ℕ → ℕ

@@ -74,7 +74,7 @@ fn make(
     let a = list(w, h, px, levels, work, words);
     let n = a.lines;
     collect(words, a.words, places);
-    note_all(px, w, h, levels, places, n, words);
+    note_all(px, w, h, levels, places, n, work, words);
     walk(px, w, h, levels, words, places);
     strip(places, n);
     list(w, h, px, levels, work, words)

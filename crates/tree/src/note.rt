@@ -52,7 +52,7 @@ fn note_of(px: &[u8], k: u8, n: u32, e: usize, i: usize) -> u32
 fn put_note(
     px: &[u8],
     st: &[u8; 256],
-    starts: &[u32; 65536],
+    starts: &[u8],
     k: u8,
     n: u32,
     e: usize,
@@ -105,7 +105,7 @@ fn note_line(
     w: usize,
     h: usize,
     st: &[u8; 256],
-    starts: &[u32; 65536],
+    starts: &[u8],
     k: u8,
     n: u32,
     e: usize,
@@ -127,7 +127,7 @@ fn note_line(
     }
 }
 
-// Notes the crossings of all n lines, whose leads stand in the tree places.
+// Notes the crossings of all n lines, whose leads stand in the tree places. The work bytes hold running sums afterwards.
 pub fn note_all(
     px: &[u8],
     w: usize,
@@ -135,15 +135,15 @@ pub fn note_all(
     ks: &[u8],
     places: &[u32],
     n: usize,
+    work: &mut [u8],
     words: &mut [u32],
 )
-    requires { ⌜ NotesReady (picture w h (now px)) (now ks) (now places) n (now words) ⌝ }
-    ensures { λ r. ⌜ (Noted eight (picture w h (now (px .entry))) (now (ks .entry)) (noteFor (picture w h (now (px .entry))) (now (ks .entry))) (lineCount eight (picture w h (now (px .entry))) (now (ks .entry))) 0 (now (words .exit))) × (drop (total (heads (picture w h (now (px .entry)))) (now (ks .entry))) (now (words .exit)) ≡ drop (total (heads (picture w h (now (px .entry)))) (now (ks .entry))) (now (words .entry))) ⌝ }
+    requires { ⌜ (NotesReady (picture w h (now px)) (now ks) (now places) n (now words)) × (length (now px) ≤ length (now work)) ⌝ }
+    ensures { λ r. ⌜ (Noted eight (picture w h (now (px .entry))) (now (ks .entry)) (noteFor (picture w h (now (px .entry))) (now (ks .entry))) (lineCount eight (picture w h (now (px .entry))) (now (ks .entry))) 0 (now (words .exit))) × (drop (total (heads (picture w h (now (px .entry)))) (now (ks .entry))) (now (words .exit)) ≡ drop (total (heads (picture w h (now (px .entry)))) (now (ks .entry))) (now (words .entry))) × (drop (length (now (px .entry))) (now (work .exit)) ≡ drop (length (now (px .entry))) (now (work .entry))) ⌝ }
 {
     let mut st = [0u8; 256];
-    let mut starts = [0u32; 65536];
     step_table(ks, &mut st);
-    run_starts(px, &st, &mut starts);
+    run_starts(px, &st, work);
     let mut m: usize = 0;
     while m < n {
         let x = places[m];
@@ -152,7 +152,7 @@ pub fn note_all(
             w,
             h,
             &st,
-            &starts,
+            work,
             (x / 8388608) as u8,
             m as u32,
             (x % 8388608 / 2) as usize,

@@ -1,9 +1,11 @@
 // Ranks of horizontal crossings, row by row in exact order, by running sums of the steps.
+use block::num4_at;
+use block::put4;
 ghost use mathlib.Core.Path.{_≡_};
 ghost use mathlib.Core.Bool.{Bool, true, false};
 ghost use Prim.Native.Nat.{ℕ, _+_, _*_, _-_, _/_, _≤_, _<_};
 ghost use lib.Dec.{ltb};
-ghost use lib.ListN.{length, getD};
+ghost use lib.ListN.{length, getD, drop};
 ghost use Rattle.tally.specs.Tally.{one, apart, tally, total};
 ghost use Rattle.matte.specs.Layout.{eight};
 ghost use Rattle.matte.specs.Picture.{picture, levelsFit};
@@ -77,29 +79,29 @@ pub fn sum_to(px: &[u8], st: &[u8; 256], a: usize, e: usize, n: u32) -> u32
     m
 }
 
-// The running sums at every 64th place.
-pub fn run_starts(px: &[u8], st: &[u8; 256], starts: &mut [u32; 65536])
-    requires { ⌜ (0 < length (now px)) × (length (now px) ≤ 4194304) × (length (now starts) ≡ 65536) ⌝ }
-    ensures { λ r. ⌜ Starts (now (st .entry)) (now (px .entry)) (now (starts .exit)) ⌝ }
+// The running sums at every 8th place, each as four of the work bytes.
+pub fn run_starts(px: &[u8], st: &[u8; 256], work: &mut [u8])
+    requires { ⌜ (4 ≤ length (now px)) × (length (now px) ≤ 4194304) × (length (now px) ≤ length (now work)) ⌝ }
+    ensures { λ r. ⌜ Starts (now (st .entry)) (now (px .entry)) (now (work .exit)) × (drop (length (now (px .entry))) (now (work .exit)) ≡ drop (length (now (px .entry))) (now (work .entry))) ⌝ }
 {
-    let blocks = (px.len() - 1) / 64;
+    let last = (px.len() - 1) / 8;
     let mut n: u32 = 0;
     let mut b: usize = 0;
-    while b < blocks {
-        starts[b] = n;
-        n = sum_to(px, st, 64 * b, 64 * b + 64, n);
+    while b < last {
+        put4(work, 4 * b, n);
+        n = sum_to(px, st, 8 * b, 8 * b + 8, n);
         b += 1;
     }
-    starts[b] = n;
+    put4(work, 4 * b, n);
 }
 
 // The rank of the crossing of level k at the place i.
-pub fn rank_of(px: &[u8], st: &[u8; 256], starts: &[u32; 65536], k: u8, i: usize) -> usize
+pub fn rank_of(px: &[u8], st: &[u8; 256], starts: &[u8], k: u8, i: usize) -> usize
     requires { ⌜ (i < length (now px)) × (length (now px) ≤ 4194304) × (k < 255) × (Rising (now st)) × (Starts (now st) (now px) (now starts)) ⌝ }
     ensures { λ r. ⌜ r ≡ rankAt (now (st .entry)) (now (px .entry)) k i ⌝ }
 {
-    let b = i / 64;
-    let n = sum_to(px, st, 64 * b, i, starts[b]);
+    let b = i / 8;
+    let n = sum_to(px, st, 8 * b, i, num4_at(starts, 4 * b));
     let p = px[i];
     let s = step_at(st, p) as u32;
     if k < p {

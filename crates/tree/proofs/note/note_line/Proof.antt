@@ -30,11 +30,11 @@ abbrev μ-loop : tie.MeasureT-loop
 
 mul-limit : tie.Need-mul-limit Inv-loop μ-loop
 mul-limit c =
-    omega (arith, area-most (c .before .before .pre .ground))
+    omega (arith, area-most (c .before .before .before .pre .ground))
 
 shared-slice-read-lead-state : tie.Need-shared-slice-read-lead-state Inv-loop μ-loop
 shared-slice-read-lead-state c =
-    let z = c .before .before .before in
+    let z = c .before .before .before .before in
     let r : 2 * z .args .e / 2 < z .args .w * z .args .h = place-in (picture (z .args .w) (z .args .h) (z .args .px .now)) (z .pre .ground) (z .args .k) (2 * z .args .e) (z .pre .lead) in
     omega (arith, z .pre .ground .whole)
 
@@ -44,12 +44,12 @@ lead-state-requires c κs =
 
 loop-holds : tie.Need-loop-holds Inv-loop μ-loop
 loop-holds c =
-    let a = c .before .before .before .before .args in
+    let a = c .before .before .before .before .before .args in
     (refl, λ G o. begin (picture (a .w) (a .h) (a .px .now)) G (a .k) (a .st .now) (a .n) (a .e) o (a .words .now) (c .lead-state .result) (c .lead-state .ensures (high (picture (a .w) (a .h) (a .px .now)) (a .k)) refl))
 
 put-note-requires : tie.Need-put-note-requires Inv-loop μ-loop
 put-note-requires c κs =
-    let z = c .before .before .before .before .before .before .before in
+    let z = c .before .before .before .before .before .before .before .before in
     let a = z .args in
     let l = c .before .before .loop in
     let T = l .inv .1 (z .pre .ground) (z .pre .lead) in
@@ -66,11 +66,11 @@ put-note-requires c κs =
 
 add-i : tie.Need-add-i Inv-loop μ-loop
 add-i c =
-    omega (arith, c .before .before .before .before .loop-test .taken, area-most (c .before .before .before .before .before .before .before .before .before .before .pre .ground))
+    omega (arith, c .before .before .before .before .loop-test .taken, area-most (c .before .before .before .before .before .before .before .before .before .before .before .pre .ground))
 
 advance-requires : tie.Need-advance-requires Inv-loop μ-loop
 advance-requires c κs =
-    let z = c .before .before .before .before .before .before .before .before .before .before in
+    let z = c .before .before .before .before .before .before .before .before .before .before .before in
     let a = z .args in
     let l = c .before .before .before .before .before .loop in
     let T = l .inv .1 (z .pre .ground) (z .pre .lead) in
@@ -86,7 +86,7 @@ same-length c =
 
 returns : tie.Need-returns Inv-loop μ-loop
 returns c =
-    let z = c .before .before .before .before .before .before .before .before .before .before .before .before .before in
+    let z = c .before .before .before .before .before .before .before .before .before .before .before .before .before .before in
     let a = z .args in
     let l = c .before .before .before .before .before .before .before .before .loop in
     let T = l .inv .1 (z .pre .ground) (z .pre .lead) in
@@ -98,7 +98,7 @@ loop-less c =
 
 loop-again : tie.Need-loop-again Inv-loop μ-loop
 loop-again c =
-    let z = c .before .before .before .before .before .before .before .before .before .before .before .before .before in
+    let z = c .before .before .before .before .before .before .before .before .before .before .before .before .before .before in
     let a = z .args in
     let l = c .before .before .before .before .before .before .before .before .loop in
     let T = l .inv .1 (z .pre .ground) (z .pre .lead) in (
@@ -113,7 +113,7 @@ same-length-2 c =
 
 returns-2 : tie.Need-returns-2 Inv-loop μ-loop
 returns-2 c =
-    let z = c .before .before .before .before .before .before in
+    let z = c .before .before .before .before .before .before .before in
     let a = z .args in
     let l = c .before .loop in
     let T = l .inv .1 (z .pre .ground) (z .pre .lead) in

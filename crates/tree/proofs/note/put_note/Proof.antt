@@ -20,14 +20,14 @@ note-of-requires c κs = search needs
 
 mul-words : tie.Need-mul-words
 mul-words c =
-    let z = c .before .before .before .before .before .before in
+    let z = c .before .before .before .before .before .before .before in
     let a = z .args in
     let h = sym (c .before .before .before .level .ensures (a .s .place)) ∙ c .before .before .if1 .taken in
     omega (arith, c .before .rank-of .ensures, z .pre .7 h, z .good .1 .1 .1 .1 .1 .1 .1 .0 .1)
 
 slice-write-words : tie.Need-slice-write-words
 slice-write-words c =
-    let z = c .before .before .before .before .before .before in
+    let z = c .before .before .before .before .before .before .before in
     let a = z .args in
     let h = sym (c .before .before .before .level .ensures (a .s .place)) ∙ c .before .before .if1 .taken in
     omega (arith, c .before .rank-of .ensures, z .pre .7 h)
@@ -37,7 +37,7 @@ same-length c = search needs
 
 returns : tie.Need-returns
 returns c =
-    let a = c .before .before .before .before .before .before .args in
+    let a = c .before .before .before .before .before .before .before .args in
     let h = sym (c .before .before .before .level .ensures (a .s .place)) ∙ c .before .before .if1 .taken in
     ap (λ (z : ℕ). set (a .words .now) z (c .note-of .result)) (c .before .rank-of .ensures)
     ∙ ap (set (a .words .now) (rankAt (a .st .now) (a .px .now) (a .k) (a .s .place))) (c .note-of .ensures)
@@ -45,7 +45,7 @@ returns c =
 
 returns-2 : tie.Need-returns-2
 returns-2 c =
-    let a = c .before .before .before .before .args in
+    let a = c .before .before .before .before .before .args in
     sym (note-tall (a .st .now) (a .px .now) (a .k) (a .n) (a .e) (a .words .now) (a .s) (sym (c .before .level .ensures (a .s .place)) ∙ c .if1 .left))
 
 pub put-note-spec : {M : Type 1} → statement M

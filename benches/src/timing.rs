@@ -62,21 +62,54 @@ impl Pace {
     }
 
     /// The least time of each call, by its calm repeats if it has any. They take turns, so that what disturbs one
-    /// disturbs all.
+    /// disturbs all; and while a least time still falls in the later half of the repeats, there are more of them, up
+    /// to three times the seconds.
     pub fn least<C: Copy, const N: usize>(self, calls: [C; N], mut run: impl FnMut(C)) -> [f64; N] {
-        let (mut calm, mut any) = ([f64::MAX; N], [f64::MAX; N]);
-        let (mut spent, mut repeats) = (0.0, 0);
-        while repeats < self.at_least || spent < self.seconds {
-            for (i, call) in calls.into_iter().enumerate() {
-                let took = once(|| run(call));
-                any[i] = any[i].min(took.process);
-                if took.calm() {
-                    calm[i] = calm[i].min(took.process);
-                }
-                spent += took.process;
-            }
+        let mut seen = [Least::default(); N];
+        let (mut spent, mut repeats, mut fell) = (0.0, 0, 0);
+        while repeats < self.at_least || spent < self.seconds || (2 * fell > repeats && spent < 3.0 * self.seconds) {
             repeats += 1;
+            for (least, call) in seen.iter_mut().zip(calls) {
+                let took = once(|| run(call));
+                spent += took.process;
+                if least.take(&took) {
+                    fell = repeats;
+                }
+            }
         }
-        std::array::from_fn(|i| if calm[i] < f64::MAX { calm[i] } else { any[i] })
+        seen.map(|least| least.time())
+    }
+}
+
+/// The least time so far, of calm repeats and of any.
+#[derive(Clone, Copy)]
+struct Least {
+    calm: f64,
+    any: f64,
+}
+
+impl Default for Least {
+    fn default() -> Least {
+        Least { calm: f64::MAX, any: f64::MAX }
+    }
+}
+
+impl Least {
+    fn time(&self) -> f64 {
+        if self.calm < f64::MAX {
+            self.calm
+        } else {
+            self.any
+        }
+    }
+
+    /// Takes one more repeat in, and answers whether the least time fell by more than a hundredth.
+    fn take(&mut self, took: &Took) -> bool {
+        let before = self.time();
+        self.any = self.any.min(took.process);
+        if took.calm() {
+            self.calm = self.calm.min(took.process);
+        }
+        self.time() < 0.99 * before
     }
 }

@@ -1,7 +1,7 @@
 -- Blocks of 64 places: their bounds, and which of them hold no fresh place. Assumes nothing.
 -- Definitions: `Finding` the first fresh place of a block among those looked at.
 -- Main laws: `lows-none`, `lows-more`, `highs-none`, `highs-more` the bounds of one block more; `dead-block` a block whose bounds do not enclose the level holds no fresh place; `any-more` one test more of many; `find-begin`,
---   `find-go`, `find-end` the search inside a block; `none-in`, `in-later` a block with no fresh place, and the first one from an offset on; `from-over` the first past numbers that fail; `bare-block`, `bare-dead`, `bare-next` no fresh place up to the next block, over blocks that are not live, or up to the next live one; `all-bare` the search goes on behind all blocks.
+--   `find-go`, `find-end` the search inside a block; `none-in`, `in-later` a block with no fresh place, and the first one from an offset on; `from-over` the first past numbers that fail; `bare-block`, `bare-dead`, `bare-next`, `to-live` no fresh place up to the next block, over blocks that are not live, or up to the next live one; `all-bare` the search goes on behind all blocks.
 use mathlib.Core.Path.{_≡_, refl, sym, ap, _∙_}
 use mathlib.Core.Bool.{Bool, true, false, not, _&&_, cond}
 use mathlib.Core.List.{List}
@@ -178,6 +178,10 @@ module _ (px work lo hi : List ℕ) (k blocks : ℕ) (B : Blocks px lo hi blocks
   pub bare-next : (from b r : ℕ) → r ≤ blocks → Bare from b → r ≤ firstFrom (liveAt lo hi k) b (blocks - b) → Bare from r
   bare-next from b r h z e =
       bare-dead from b r h z (λ d u v. from-before (liveAt lo hi k) b (blocks - b) d u (omega arith))
+
+  -- the next live block, where there is one
+  pub to-live : (from b r : ℕ) → r ≡ firstFrom (liveAt lo hi k) b (blocks - b) → r < blocks → Bare from b → (b ≤ r) × Bare from r
+  to-live from b r e h z = (rw e (from-ge (liveAt lo hi k) b (blocks - b)), bare-next from b r (omega arith) z (omega arith))
 
   -- over all blocks
   pub all-bare : (from : ℕ) → from ≤ 64 * blocks → Bare from blocks

@@ -12,7 +12,7 @@ use Rattle.tally.proofs.Test.{by-test}
 use Rattle.tally.proofs.First.{from-is, from-ge}
 use Rattle.trace.specs.Trace.{fresh}
 use Rattle.trace.specs.Search.{Blocks, liveAt}
-use Rattle.trace.proofs.Blocks.{bare-block, bare-next, all-bare}
+use Rattle.trace.proofs.Blocks.{bare-block, bare-next, to-live, all-bare}
 use Rattle.trace.proofs.search.search.Statement.{statement}
 use Rattle.trace.proofs.search.search.Tie as tie
 
@@ -126,17 +126,15 @@ returns-4 c =
     let a = c .before .before .before .before .before .before .before .before .before .before .before .args in
     let B = c .before .before .before .before .before .before .before .before .before .before .before .pre .3 in
     let l = c .before .before .before .before .before .loop in
-    let n = c .before .before .before .next-live in
-    let r = n .result in
-    let g : l .b ≤ r = rw (n .ensures) (from-ge (liveAt (a .lo .now) (a .hi .now) (a .k)) (l .b) (a .blocks - l .b)) in
-    let d = bare-next (a .px .now) (a .work .now) (a .lo .now) (a .hi .now) (a .k) (a .blocks) B (a .from) (l .b) r (omega (arith, c .before .before .if3 .left)) (l .inv .2) (omega (arith, n .ensures)) in
+    let r = c .before .before .before .next-live .result in
+    let d = to-live (a .px .now) (a .work .now) (a .lo .now) (a .hi .now) (a .k) (a .blocks) B (a .from) (l .b) r (c .before .before .before .next-live .ensures) (omega (arith, c .before .before .if3 .left)) (l .inv .2) in
     let R = c .before .seen-in .ensures in
     let i = c .before .seen-in .result in
     let y = R .found (c .if4 .taken) in
     sym
-    (from-is (fresh (a .px .now) (a .work .now) (a .k)) (a .from) (length (a .px .now) - 1 - a .from) (64 * r + i) (omega (arith, l .inv .1)) (omega (arith, l .inv .1, c .if4 .taken, c .before .before .if3 .left, B .inside))
+    (from-is (fresh (a .px .now) (a .work .now) (a .k)) (a .from) (length (a .px .now) - 1 - a .from) (64 * r + i) (omega (arith, l .inv .1, d .0)) (omega (arith, l .inv .1, d .0, c .if4 .taken, c .before .before .if3 .left, B .inside))
     (λ j u v. by-test (ltb j (64 * r))
-    (λ e. d j u (ltb-true j (64 * r) e))
+    (λ e. d .1 j u (ltb-true j (64 * r) e))
     (λ e.
     let x : 64 * r ≤ j = ltb-false j (64 * r) e in
     let s : 64 * r + (j - 64 * r) ≡ j = omega arith in
@@ -157,14 +155,12 @@ loop-again c =
     let a = c .before .before .before .before .before .before .before .before .before .before .before .args in
     let B = c .before .before .before .before .before .before .before .before .before .before .before .pre .3 in
     let l = c .before .before .before .before .before .loop in
-    let n = c .before .before .before .next-live in
-    let r = n .result in
-    let g : l .b ≤ r = rw (n .ensures) (from-ge (liveAt (a .lo .now) (a .hi .now) (a .k)) (l .b) (a .blocks - l .b)) in
-    let d = bare-next (a .px .now) (a .work .now) (a .lo .now) (a .hi .now) (a .k) (a .blocks) B (a .from) (l .b) r (omega (arith, c .before .before .if3 .left)) (l .inv .2) (omega (arith, n .ensures)) in
+    let r = c .before .before .before .next-live .result in
+    let d = to-live (a .px .now) (a .work .now) (a .lo .now) (a .hi .now) (a .k) (a .blocks) B (a .from) (l .b) r (c .before .before .before .next-live .ensures) (omega (arith, c .before .before .if3 .left)) (l .inv .2) in
     let R = c .before .seen-in .ensures in (
       omega (arith, c .before .before .if3 .left),
-      omega (arith, l .inv .1),
-      bare-block (a .px .now) (a .work .now) (a .lo .now) (a .hi .now) (a .k) (a .blocks) B (a .from) r 0 (λ i u v. R .passed i u (omega (arith, c .if4 .left))) (inr (refl, d)),
+      omega (arith, l .inv .1, d .0),
+      bare-block (a .px .now) (a .work .now) (a .lo .now) (a .hi .now) (a .k) (a .blocks) B (a .from) r 0 (λ i u v. R .passed i u (omega (arith, c .if4 .left))) (inr (refl, d .1)),
     )
 
 mul-tail-2 : tie.Need-mul-tail-2 Inv-loop μ-loop

@@ -1,6 +1,6 @@
 -- Counting by rows of steps. Assumes nothing.
 -- Definitions: `Counted` the rows above row y are counted, and a buffer holds the steps of row y.
--- Main laws: `row-none`, `row-more` a row of steps is filled one by one; `gaps-none`, `gaps-more` a row of distances likewise; `gaps-both` the sums of two such rows; `part-none`, `part-more`, `part-piece` a sum one by one and piece by piece; `start`, `go`, `end` the first row, one row more, and the last; `below` the row below lies within.
+-- Main laws: `row-none`, `row-more`, `row-whole` a row of steps is filled one by one; `gaps-none`, `gaps-more` a row of distances likewise; `gaps-both` the sums of two such rows; `part-none`, `part-more`, `part-piece` a sum one by one and piece by piece; `start`, `go`, `end` the first row, one row more, and the last; `below` the row below lies within; `room-at` what the rows ask of a picture.
 use mathlib.Core.Path.{_≡_, refl, sym, ap, subst, _∙_}
 use mathlib.Core.Bool.{true}
 use mathlib.Core.List.{List}
@@ -19,7 +19,8 @@ use Rattle.matte.specs.Layout.{eight}
 use Rattle.matte.specs.Picture.{Picture, size, at, levelsFit}
 use Rattle.outline.specs.List.{listed}
 use Rattle.refuse.specs.Shape.{Ground}
-use Rattle.count.specs.Steps.{steps, stepTable, Row, Gaps, gaps, places}
+use Rattle.count.specs.Steps.{steps, stepTable, Room, Row, Gaps, gaps, places}
+use Rattle.count.proofs.Flat.{area-most}
 use Rattle.count.proofs.Steps.{table-at, listed-places, row-end}
 
 -- ---- one row of steps
@@ -41,6 +42,9 @@ row-more t px q from x v R h b e =
       room = simp length-set (R .room);
       entry = stored (λ c y. (getD px (from + c) 0 < 256) × (y ≡ getD t (getD px (from + c) 0) 0)) q x v (omega (arith, R .room)) (R .entry) (b, e);
     }
+
+pub row-whole : (t px q : List ℕ) (from x w : ℕ) → x ≤ w → w ≤ x → Row t px from x q → Row t px from w q
+row-whole t px q from x w a b R = let e : x ≡ w = omega arith in subst (λ (k : ℕ). Row t px from k q) e R
 
 -- ---- a row of distances
 pub gaps-none : (p q d : List ℕ) (s : ℕ) → length d ≡ 2048 → Gaps p q s 0 d
@@ -87,6 +91,9 @@ module _ (g : ℕ → ℕ) where
       ∙ ap (sum g) t
 
 -- ---- row after row
+pub room-at : {P : Picture} → Ground P → (from : ℕ) (q : List ℕ) → from + P .w ≤ length (P .px) → length q ≡ 2048 → Room (P .px) from (P .w) q
+room-at G from q h e = record { within = h; wide = G .sides .w-most; most = area-most G; room = e }
+
 pub record Counted (P : Picture) (ks t p : List ℕ) (y from n : ℕ) : Type 0 where
   pub table : t ≡ stepTable ks
   pub within : y < P .h

@@ -1,9 +1,9 @@
 -- Samples by how many listed levels they are high at. Assumes nothing.
--- Definitions: `steps ks s` how many listed levels the sample s is high at; `stepTable` the same for all bytes; `Row` a buffer begins with the steps of a row; `Gaps` one begins with the distances of two rows; `gaps` how far the steps of a
+-- Definitions: `steps ks s` how many listed levels the sample s is high at; `stepTable` the same for all bytes; `levelAt` a level by its index; `Room` a row lies within the samples and a buffer can hold it; `Row` a buffer begins with the steps of a row; `Gaps` one begins with the distances of two rows; `gaps` how far the steps of a
 --   sample are from those of its right neighbour and of the one below; `places` the same at a place of a picture.
 use mathlib.Core.Path.{_≡_}
 use mathlib.Core.List.{List}
-use Prim.Native.Nat.{ℕ, _+_, _<_}
+use Prim.Native.Nat.{ℕ, _+_, _≤_, _<_}
 use lib.Dec.{ltb}
 use lib.ListN.{length, getD}
 use Rattle.tally.specs.Tally.{apart, tally, build}
@@ -16,6 +16,17 @@ steps ks s = tally (λ k. ltb k s) ks
 -- the steps of the bytes 0 to 255
 abbrev pub stepTable : List ℕ → List ℕ
 stepTable ks = build (steps ks) 0 256
+
+-- the level at an index of the list, past its end 255
+abbrev pub levelAt : List ℕ → ℕ → ℕ
+levelAt ks j = getD ks j 255
+
+-- the w samples from `from` on are there, and q has room for them
+pub record Room (px : List ℕ) (from w : ℕ) (q : List ℕ) : Type 0 where
+  pub within : from + w ≤ length px
+  pub wide : w ≤ 2048
+  pub most : length px ≤ 4194304
+  pub room : length q ≡ 2048
 
 -- q begins with the entries of the table t for the w samples from `from` on, which are bytes
 pub record Row (t px : List ℕ) (from w : ℕ) (q : List ℕ) : Type 0 where

@@ -1,14 +1,16 @@
 // Counting by steps: a sample's step is the number of listed levels that it is high at, and an edgel is crossed as often as the steps of its ends are apart.
+use crate::one_if;
 ghost use mathlib.Core.Path.{_≡_};
 ghost use mathlib.Core.Bool.{Bool, true, false};
 ghost use Prim.Native.Nat.{ℕ, _+_, _*_, _-_, _≤_, _<_};
+ghost use lib.Dec.{ltb};
 ghost use lib.ListN.{length, getD};
-ghost use Rattle.tally.specs.Tally.{sum, apart};
+ghost use Rattle.tally.specs.Tally.{one, sum, apart};
 ghost use Rattle.matte.specs.Layout.{eight};
 ghost use Rattle.matte.specs.Picture.{picture, levelsFit};
 ghost use Rattle.outline.specs.List.{listed};
 ghost use Rattle.refuse.specs.Shape.{Ground};
-ghost use Rattle.count.specs.Steps.{steps, stepTable, Row, Gaps, gaps};
+ghost use Rattle.count.specs.Steps.{steps, levelAt, stepTable, Room, Row, Gaps, gaps};
 
 // How far two steps are apart.
 fn gap(a: u8, b: u8) -> u8
@@ -49,7 +51,7 @@ fn step_table(ks: &[u8]) -> [u8; 256]
 
 // The steps of the w samples from `from` on.
 fn row_steps(t: &[u8; 256], px: &[u8], from: usize, w: usize, q: &mut [u8; 2048])
-    requires { ⌜ (from + w ≤ length (now px)) × (w ≤ 2048) × (length (now px) ≤ 4194304) × (length (now q) ≡ 2048) ⌝ }
+    requires { ⌜ Room (now px) from w (now q) ⌝ }
     ensures { λ r. ⌜ Row (now (t .entry)) (now (px .entry)) from w (now (q .exit)) ⌝ }
 {
     let mut x: usize = 0;
@@ -58,6 +60,62 @@ fn row_steps(t: &[u8; 256], px: &[u8], from: usize, w: usize, q: &mut [u8; 2048]
         q[x] = t[s];
         x += 1;
     }
+}
+
+// The level at an index, or 255, which no sample is above.
+fn level_or(ks: &[u8], j: usize) -> u8
+    ensures { λ r. ⌜ r ≡ levelAt (now (ks .entry)) j ⌝ }
+{
+    if j < ks.len() {
+        return ks[j];
+    }
+    255
+}
+
+// The step of v by eight levels.
+fn step8(k0: u8, k1: u8, k2: u8, k3: u8, k4: u8, k5: u8, k6: u8, k7: u8, v: u8) -> u8
+    ensures { λ r. ⌜ r ≡ one (ltb k0 v) + one (ltb k1 v) + one (ltb k2 v) + one (ltb k3 v) + one (ltb k4 v) + one (ltb k5 v) + one (ltb k6 v) + one (ltb k7 v) ⌝ }
+{
+    one_if(k0 < v)
+        + one_if(k1 < v)
+        + one_if(k2 < v)
+        + one_if(k3 < v)
+        + one_if(k4 < v)
+        + one_if(k5 < v)
+        + one_if(k6 < v)
+        + one_if(k7 < v)
+}
+
+// The steps of a row, by comparing with at most eight levels.
+fn row_few(ks: &[u8], px: &[u8], from: usize, w: usize, q: &mut [u8; 2048])
+    requires { ⌜ (length (now ks) ≤ 8) × Room (now px) from w (now q) ⌝ }
+    ensures { λ r. ⌜ Row (stepTable (now (ks .entry))) (now (px .entry)) from w (now (q .exit)) ⌝ }
+{
+    let k0 = level_or(ks, 0);
+    let k1 = level_or(ks, 1);
+    let k2 = level_or(ks, 2);
+    let k3 = level_or(ks, 3);
+    let k4 = level_or(ks, 4);
+    let k5 = level_or(ks, 5);
+    let k6 = level_or(ks, 6);
+    let k7 = level_or(ks, 7);
+    let mut x: usize = 0;
+    while x < w {
+        q[x] = step8(k0, k1, k2, k3, k4, k5, k6, k7, px[from + x]);
+        x += 1;
+    }
+}
+
+// The steps of a row: up to eight levels are compared with, of more the table is asked.
+fn row_of(ks: &[u8], t: &[u8; 256], px: &[u8], from: usize, w: usize, q: &mut [u8; 2048])
+    requires { ⌜ (now t ≡ stepTable (now ks)) × Room (now px) from w (now q) ⌝ }
+    ensures { λ r. ⌜ Row (now (t .entry)) (now (px .entry)) from w (now (q .exit)) ⌝ }
+{
+    if ks.len() <= 8 {
+        row_few(ks, px, from, w, q);
+        return;
+    }
+    row_steps(t, px, from, w, q);
 }
 
 // How far the first `end` elements of p are from those of q, taken s places on.
@@ -120,7 +178,7 @@ fn row_sum(p: &[u8; 2048], q: &[u8; 2048], w: usize) -> usize
     n + long_sum(&d, end)
 }
 
-// The words of the list, row by row: each row of steps is looked up once and compared with the one above it.
+// The words of the list, row by row: each row of steps is made once and compared with the one above it.
 pub fn by_steps(px: &[u8], w: usize, h: usize, ks: &[u8]) -> usize
     requires { ⌜ (Ground (picture w h (now px))) × (levelsFit eight (now ks) ≡ true) ⌝ }
     ensures { λ r. ⌜ r ≡ length (listed eight (picture w h (now (px .entry))) (now (ks .entry))) ⌝ }
@@ -128,20 +186,20 @@ pub fn by_steps(px: &[u8], w: usize, h: usize, ks: &[u8]) -> usize
     let t = step_table(ks);
     let mut p = [0u8; 2048];
     let mut q = [0u8; 2048];
-    row_steps(&t, px, 0, w, &mut p);
+    row_of(ks, &t, px, 0, w, &mut p);
     let mut n: usize = 0;
     let mut y: usize = 0;
     let mut from: usize = 0;
     while y + 2 < h {
-        row_steps(&t, px, from + w, w, &mut q);
+        row_of(ks, &t, px, from + w, w, &mut q);
         n += row_sum(&p, &q, w);
         from += w + w;
-        row_steps(&t, px, from, w, &mut p);
+        row_of(ks, &t, px, from, w, &mut p);
         n += row_sum(&q, &p, w);
         y += 2;
     }
     if y + 1 < h {
-        row_steps(&t, px, from + w, w, &mut q);
+        row_of(ks, &t, px, from + w, w, &mut q);
         return n + row_sum(&p, &q, w);
     }
     n

@@ -7,7 +7,7 @@ use Rattle.matte.specs.Picture.{picture}
 use Rattle.count.specs.Steps.{Row}
 use Rattle.count.proofs.Flat.{area-most}
 use Rattle.count.proofs.Counting.{row-fits}
-use Rattle.count.proofs.Rows.{Counted, begin, below, go, end}
+use Rattle.count.proofs.Rows.{Counted, room-at, begin, below, go, end}
 use Rattle.count.proofs.stepped.by_steps.Statement.{statement}
 use Rattle.count.proofs.stepped.by_steps.Tie as tie
 
@@ -20,23 +20,23 @@ abbrev μ-loop : tie.MeasureT-loop
 step-table-requires : tie.Need-step-table-requires Inv-loop μ-loop
 step-table-requires c κs = c .before .before .pre .1
 
-row-steps-requires : tie.Need-row-steps-requires Inv-loop μ-loop
-row-steps-requires c κs =
+row-of-requires : tie.Need-row-of-requires Inv-loop μ-loop
+row-of-requires c κs =
     let G = c .before .before .before .before .before .pre .0 in
-    (omega (arith, row-fits G), G .sides .w-most, area-most G, refl)
+    (c .before .before .step-table .ensures, room-at G 0 _ (omega (arith, row-fits G)) refl)
 
 loop-holds : tie.Need-loop-holds Inv-loop μ-loop
 loop-holds c =
     let z = c .before .before .before .before .before .before in
     let a = z .args in
     let s = c .before .before .before .step-table in
-    (refl, begin (picture (a .w) (a .h) (a .px .now)) (z .pre .0) (a .ks .now) (s .result) _ (s .ensures) (c .row-steps .ensures))
+    (refl, begin (picture (a .w) (a .h) (a .px .now)) (z .pre .0) (a .ks .now) (s .result) _ (s .ensures) (c .row-of .ensures))
 
 add-loop : tie.Need-add-loop Inv-loop μ-loop
 add-loop c = omega (arith, c .before .before .before .before .before .before .before .pre .0 .sides .h-most, c .loop .inv .1 .within)
 
-add-row-steps : tie.Need-add-row-steps Inv-loop μ-loop
-add-row-steps c =
+add-row-of : tie.Need-add-row-of Inv-loop μ-loop
+add-row-of c =
     let z = c .before .before .before .before .before .before .before .before .before in
     let a = z .args in
     let G = z .pre .0 in
@@ -46,16 +46,15 @@ add-row-steps c =
     let b = below P G (a .ks .now) (c .before .before .before .before .before .before .step-table .result) (l .p) (l .y) (l .from) (l .n) (l .inv .1) 2 (omega (arith, c .before .loop-test .taken)) in
     omega arith
 
-row-steps-requires-2 : tie.Need-row-steps-requires-2 Inv-loop μ-loop
-row-steps-requires-2 c κs =
+row-of-requires-2 : tie.Need-row-of-requires-2 Inv-loop μ-loop
+row-of-requires-2 c κs =
     let z = c .before .before .before .before .before .before .before .before .before .before in
     let a = z .args in
     let G = z .pre .0 in
     let P = picture (a .w) (a .h) (a .px .now) in
     let l = c .before .before .before .loop in
-    let m = area-most G in
     let b = below P G (a .ks .now) (c .before .before .before .before .before .before .before .step-table .result) (l .p) (l .y) (l .from) (l .n) (l .inv .1) 1 (omega (arith, c .before .before .loop-test .taken)) in
-    (omega arith, G .sides .w-most, m, l .inv .0)
+    (l .inv .1 .table, room-at G (l .from + a .w) _ (omega arith) (l .inv .0))
 
 row-sum-requires : tie.Need-row-sum-requires Inv-loop μ-loop
 row-sum-requires c κs = let s = c .before .before .before .before .before .before .before .before .before .before .before .before .before .pre .0 .sides in (omega (arith, s .w-least), s .w-most)
@@ -93,16 +92,15 @@ add-from-2 c =
     let b = below P G (a .ks .now) (c .before .before .before .before .before .before .before .before .before .before .before .step-table .result) (l .p) (l .y) (l .from) (l .n) (l .inv .1) 1 (omega (arith, c .before .before .before .before .before .before .loop-test .taken)) in
     omega arith
 
-row-steps-requires-3 : tie.Need-row-steps-requires-3 Inv-loop μ-loop
-row-steps-requires-3 c κs =
+row-of-requires-3 : tie.Need-row-of-requires-3 Inv-loop μ-loop
+row-of-requires-3 c κs =
     let z = c .before .before .before .before .before .before .before .before .before .before .before .before .before .before .before .before in
     let a = z .args in
     let G = z .pre .0 in
     let P = picture (a .w) (a .h) (a .px .now) in
     let l = c .before .before .before .before .before .before .before .before .before .loop in
-    let m = area-most G in
     let b = below P G (a .ks .now) (c .before .before .before .before .before .before .before .before .before .before .before .before .before .step-table .result) (l .p) (l .y) (l .from) (l .n) (l .inv .1) 2 (omega (arith, c .before .before .before .before .before .before .before .before .loop-test .taken)) in
-    (omega arith, G .sides .w-most, m, l .inv .1 .row .room)
+    (l .inv .1 .table, room-at G (l .from + (a .w + a .w)) _ (omega arith) (l .inv .1 .row .room))
 
 row-sum-requires-2 : tie.Need-row-sum-requires-2 Inv-loop μ-loop
 row-sum-requires-2 c κs = let s = c .before .before .before .before .before .before .before .before .before .before .before .before .before .before .before .before .before .before .before .pre .0 .sides in (omega (arith, s .w-least), s .w-most)
@@ -143,16 +141,16 @@ loop-again c =
     let u = c .before .before .before .before .before .before .before .before .before .before .before .before .loop-test .taken in
     let r = c .before .before .before .before .before .before .row-sum in
     let C =
-    go P G (a .ks .now) t (l .p) (l .y) (l .from) (l .n) (l .inv .1) _ (l .y + 1) (l .from + a .w) (r .result) (omega arith) refl refl (c .before .before .before .before .before .before .before .before .before .row-steps2 .ensures) (r .ensures .0) (r .ensures .1) in (
-      c .before .before .before .before .before .before .before .before .before .row-steps2 .ensures .room,
-      go P G (a .ks .now) t _ (l .y + 1) (l .from + a .w) (l .n + r .result) C _ (l .y + 2) (l .from + (a .w + a .w)) (c .row-sum2 .result) (omega arith) (omega arith) (omega arith) (c .before .before .before .row-steps3 .ensures) (c .row-sum2 .ensures .0) (c .row-sum2 .ensures .1),
+    go P G (a .ks .now) t (l .p) (l .y) (l .from) (l .n) (l .inv .1) _ (l .y + 1) (l .from + a .w) (r .result) (omega arith) refl refl (c .before .before .before .before .before .before .before .before .before .row-of2 .ensures) (r .ensures .0) (r .ensures .1) in (
+      c .before .before .before .before .before .before .before .before .before .row-of2 .ensures .room,
+      go P G (a .ks .now) t _ (l .y + 1) (l .from + a .w) (l .n + r .result) C _ (l .y + 2) (l .from + (a .w + a .w)) (c .row-sum2 .result) (omega arith) (omega arith) (omega arith) (c .before .before .before .row-of3 .ensures) (c .row-sum2 .ensures .0) (c .row-sum2 .ensures .1),
     )
 
 add-if1 : tie.Need-add-if1 Inv-loop μ-loop
 add-if1 c = omega (arith, c .before .before .before .before .before .before .before .before .pre .0 .sides .h-most, c .before .loop .inv .1 .within)
 
-add-row-steps-2 : tie.Need-add-row-steps-2 Inv-loop μ-loop
-add-row-steps-2 c =
+add-row-of-2 : tie.Need-add-row-of-2 Inv-loop μ-loop
+add-row-of-2 c =
     let z = c .before .before .before .before .before .before .before .before .before .before in
     let a = z .args in
     let G = z .pre .0 in
@@ -162,16 +160,15 @@ add-row-steps-2 c =
     let b = below P G (a .ks .now) (c .before .before .before .before .before .before .before .step-table .result) (l .p) (l .y) (l .from) (l .n) (l .inv .1) 1 (omega (arith, c .before .if1 .taken)) in
     omega arith
 
-row-steps-requires-4 : tie.Need-row-steps-requires-4 Inv-loop μ-loop
-row-steps-requires-4 c κs =
+row-of-requires-4 : tie.Need-row-of-requires-4 Inv-loop μ-loop
+row-of-requires-4 c κs =
     let z = c .before .before .before .before .before .before .before .before .before .before .before in
     let a = z .args in
     let G = z .pre .0 in
     let P = picture (a .w) (a .h) (a .px .now) in
     let l = c .before .before .before .before .loop in
-    let m = area-most G in
     let b = below P G (a .ks .now) (c .before .before .before .before .before .before .before .before .step-table .result) (l .p) (l .y) (l .from) (l .n) (l .inv .1) 1 (omega (arith, c .before .before .if1 .taken)) in
-    (omega arith, G .sides .w-most, m, l .inv .0)
+    (l .inv .1 .table, room-at G (l .from + a .w) _ (omega arith) (l .inv .0))
 
 row-sum-requires-3 : tie.Need-row-sum-requires-3 Inv-loop μ-loop
 row-sum-requires-3 c κs = let s = c .before .before .before .before .before .before .before .before .before .before .before .before .before .before .pre .0 .sides in (omega (arith, s .w-least), s .w-most)
@@ -198,7 +195,7 @@ returns c =
     let t = c .before .before .before .before .before .before .before .before .before .before .before .before .step-table .result in
     let r = c .row-sum3 in
     let C =
-    go P G (a .ks .now) t (l .p) (l .y) (l .from) (l .n) (l .inv .1) _ (l .y + 1) (l .from + a .w) (r .result) (c .before .before .before .before .before .before .if1 .taken) refl refl (c .before .before .before .row-steps4 .ensures) (r .ensures .0) (r .ensures .1) in
+    go P G (a .ks .now) t (l .p) (l .y) (l .from) (l .n) (l .inv .1) _ (l .y + 1) (l .from + a .w) (r .result) (c .before .before .before .before .before .before .if1 .taken) refl refl (c .before .before .before .row-of4 .ensures) (r .ensures .0) (r .ensures .1) in
     end P G (a .ks .now) t _ (l .y + 1) (l .from + a .w) (l .n + r .result) C (omega (arith, c .before .before .before .before .before .before .before .loop-test .left))
 
 returns-2 : tie.Need-returns-2 Inv-loop μ-loop
@@ -218,24 +215,24 @@ by-steps-spec =
     Inv-loop
     μ-loop
     step-table-requires
-    row-steps-requires
+    row-of-requires
     loop-holds
     add-loop
-    add-row-steps
-    row-steps-requires-2
+    add-row-of
+    row-of-requires-2
     row-sum-requires
     add-n
     add-from
     add-from-2
-    row-steps-requires-3
+    row-of-requires-3
     row-sum-requires-2
     add-n-2
     add-y
     loop-less
     loop-again
     add-if1
-    add-row-steps-2
-    row-steps-requires-4
+    add-row-of-2
+    row-of-requires-4
     row-sum-requires-3
     add-result
     returns

@@ -1,10 +1,9 @@
 -- `count::stepped::row_steps` meets its contract: the samples passed have their steps in the buffer. Assumes nothing.
-use mathlib.Core.Path.{_≡_, refl, subst}
-use Prim.Native.Nat.{ℕ, _+_, _-_, _≤_, _<_}
+use mathlib.Core.Path.{refl}
+use Prim.Native.Nat.{_+_, _-_, _≤_, _<_}
 use native.Mathlib.Omega.{arith}
-use lib.ListN.{length}
 use Rattle.count.specs.Steps.{Row}
-use Rattle.count.proofs.Rows.{row-none, row-more}
+use Rattle.count.proofs.Rows.{row-none, row-more, row-whole}
 use Rattle.count.proofs.stepped.row_steps.Statement.{statement}
 use Rattle.count.proofs.stepped.row_steps.Tie as tie
 
@@ -15,13 +14,13 @@ abbrev μ-loop : tie.MeasureT-loop
 μ-loop t px from w q₀ x₀ q x = w - x
 
 loop-holds : tie.Need-loop-holds Inv-loop μ-loop
-loop-holds c = (omega arith, row-none _ _ _ _ (c .pre .3))
+loop-holds c = (omega arith, row-none _ _ _ _ (c .pre .room))
 
 add-s : tie.Need-add-s Inv-loop μ-loop
-add-s c = omega (arith, c .loop-test .taken, c .before .before .pre .0, c .before .before .pre .2)
+add-s c = omega (arith, c .loop-test .taken, c .before .before .pre .within, c .before .before .pre .most)
 
 shared-slice-read-s : tie.Need-shared-slice-read-s Inv-loop μ-loop
-shared-slice-read-s c = omega (arith, c .before .loop-test .taken, c .before .before .before .pre .0)
+shared-slice-read-s c = omega (arith, c .before .loop-test .taken, c .before .before .before .pre .within)
 
 cast-s : tie.Need-cast-s Inv-loop μ-loop
 cast-s c = omega (arith, c .shared-slice-known .given (c .before .before .before .args .from + c .before .before .loop .x))
@@ -30,10 +29,10 @@ element-copy-out-q : tie.Need-element-copy-out-q Inv-loop μ-loop
 element-copy-out-q c = omega (arith, c .shared-slice-known .given (c .before .before .before .args .from + c .before .before .loop .x))
 
 element-write-q : tie.Need-element-write-q Inv-loop μ-loop
-element-write-q c = omega (arith, c .before .before .loop-test .taken, c .before .before .before .before .pre .1)
+element-write-q c = omega (arith, c .before .before .loop-test .taken, c .before .before .before .before .pre .wide)
 
 add-x : tie.Need-add-x Inv-loop μ-loop
-add-x c = omega (arith, c .before .before .loop-test .taken, c .before .before .before .before .pre .1)
+add-x c = omega (arith, c .before .before .loop-test .taken, c .before .before .before .before .pre .wide)
 
 loop-less : tie.Need-loop-less Inv-loop μ-loop
 loop-less c = omega (arith, c .before .before .loop-test .taken)
@@ -43,15 +42,11 @@ loop-again c =
     let z = c .before .before .before .before in
     let l = c .before .before .before .loop in (
       omega (arith, c .before .before .loop-test .taken),
-      row-more _ _ (l .q) (z .args .from) (l .x) _ (l .inv .1) (omega (arith, c .before .before .loop-test .taken, z .pre .1)) (omega (arith, c .before .shared-slice-known .given (z .args .from + l .x))) refl,
+      row-more _ _ (l .q) (z .args .from) (l .x) _ (l .inv .1) (omega (arith, c .before .before .loop-test .taken, z .pre .wide)) (omega (arith, c .before .shared-slice-known .given (z .args .from + l .x))) refl,
     )
 
 returns : tie.Need-returns Inv-loop μ-loop
-returns c =
-    let z = c .before .before in
-    let l = c .before .loop in
-    let e : l .x ≡ z .args .w = omega (arith, c .loop-test .left, l .inv .0) in
-    subst (λ (k : ℕ). Row (z .args .t .now) (z .args .px .now) (z .args .from) k (l .q)) e (l .inv .1)
+returns c = let l = c .before .loop in row-whole _ _ (l .q) (c .before .before .args .from) _ _ (l .inv .0) (c .loop-test .left) (l .inv .1)
 
 pub row-steps-spec : {M : Type 1} → statement M
 row-steps-spec =

@@ -1,7 +1,7 @@
 -- The scan by places with its marks in work bytes: what a loop over the places of a picture keeps, at one level. Assumes nothing.
 -- Definitions: `Scanned P B k i m` the places below i have been scanned: a crossed horizontal code is marked by m exactly if the lead of its line is below 2 i.
 -- Main laws: `marks-begin` before the first place; `place-tell` a crossed place leads a line exactly if it is not marked; `place-skip`, `place-flat` past a place that leads none; `place-line` past
---   one whose line has been marked in the bytes; `marks-done` at the end all are marked; `line-low` the codes of a line have their places in the bytes.
+--   one whose line has been marked in the bytes; `marks-done` at the end all are marked; `line-cut`, `line-low` the codes of a line are crossed, and name edgels.
 use mathlib.Core.Path.{_≡_, refl}
 use mathlib.Core.Bool.{Bool, true, false, not, _&&_}
 use mathlib.Core.List.{List}
@@ -74,13 +74,13 @@ module _ (P : Picture) (B : Border P) (k : ℕ) where
   line-low c d o h = closedAt P B k .bound d (line-cut c d o h)
 
   -- the bytes after the line of place i has been followed and marked
-  pub place-line : (t : ℕ → Bool) (v : ℕ) → t v ≡ true → (i : ℕ) (bytes : List ℕ) → size P ≤ length bytes → Scanned i (marked t bytes) → isLead P k (2 * i) ≡ true
+  pub place-line : (t : ℕ → Bool) (v : ℕ) → t v ≡ true → (i : ℕ) (bytes : List ℕ) → ((c : ℕ) → 0 < count c (line P k (2 * i)) → c < 2 * length bytes) → Scanned i (marked t bytes) → isLead P k (2 * i) ≡ true
       → Scanned (suc i) (marked t (markAll v bytes (line P k (2 * i))))
   unfolding isLead line on
   place-line t v y i bytes room M e =
       past i (marked t (markAll v bytes (line P k (2 * i))))
       (marks-line (closedAt P B k) horizontal (headedAt P B k) (2 * i) (marked t bytes) (marked t (markAll v bytes (line P k (2 * i)))) M e
-      (λ d h. mark-all t v y bytes (line P k (2 * i)) d h (λ c l. omega (arith, line-low (2 * i) c (lead-cut (2 * i) e) l))))
+      (λ d h. mark-all t v y bytes (line P k (2 * i)) d h room))
 
   pub marks-done : (m : ℕ → Bool) → Scanned (size P) m → (d : ℕ) → cutAt P k d ≡ true → horizontal d ≡ true → m d ≡ true
   marks-done m M d o h = marks-end (closedAt P B k) horizontal (headedAt P B k) m M d o h

@@ -22,7 +22,7 @@ use Rattle.outline.proofs.Levels.{level-below, levels-ascend}
 use Rattle.outline.proofs.Listed.{Fits, listed-append, listed-more, listed-flags}
 use Rattle.trace.specs.declared.scan.Written.{Written}
 use Rattle.refuse.specs.Shape.{Ground}
-use Rattle.trace.specs.Trace.{Worn, pasted}
+use Rattle.trace.specs.Trace.{upper, Worn, pasted}
 use Rattle.trace.specs.Level.{LevelReady, LevelDone, AllReady, AllDone}
 use Rattle.count.proofs.Flat.{border-of}
 use Rattle.trace.proofs.Scanning.{paste-on}
@@ -66,8 +66,8 @@ module _ (P : Picture) (ks : List ℕ) where
       pub lines-so : s .lines ≡ counted j
       pub fewer : s .lines ≤ s .words
       pub long : length work ≡ length work₀
-      pub rest : drop (size P) work ≡ drop (size P) work₀
-      pub low : j < length ks → (i : ℕ) → i < size P → getD work i 0 ≤ getD ks j 0
+      pub rest : drop (upper P) work ≡ drop (upper P) work₀
+      pub low : j < length ks → (i : ℕ) → i < upper P → getD work i 0 ≤ getD ks j 0
 
     pub all-begin : Listing 0 (record { words = 0; lines = 0 }) work₀ words₀
     unfolding listed total

@@ -184,6 +184,6 @@ module _ (px work lo hi : List ℕ) (k blocks : ℕ) (B : Blocks px lo hi blocks
   to-live from b r e h z = (rw e (from-ge (liveAt lo hi k) b (blocks - b)), bare-next from b r (omega arith) z (omega arith))
 
   -- over all blocks
-  pub all-bare : (from : ℕ) → from ≤ 64 * blocks → Bare from blocks
-      → firstFrom (fresh px work k) (64 * blocks) (length px - 1 - 64 * blocks) ≡ firstFrom (fresh px work k) from (length px - 1 - from)
-  all-bare from h z = from-over (fresh px work k) from (64 * blocks) (length px - 1) h (omega (arith, B .inside)) z
+  pub all-bare : (from end : ℕ) → from ≤ 64 * blocks → 64 * blocks ≤ end → Bare from blocks
+      → firstFrom (fresh px work k) (64 * blocks) (end - 64 * blocks) ≡ firstFrom (fresh px work k) from (end - from)
+  all-bare from end h l z = from-over (fresh px work k) from (64 * blocks) end h l z

@@ -1,17 +1,16 @@
 -- One level: the loop that finds each lead and follows its line. Assumes nothing.
 -- Definitions: `At` what holds at a place before the next lead is looked for; `Scanning` the loop's invariant, where the place leads or is the last.
--- Main laws: `words-grow` words only get more; `mark-all-low` marks stay low; `at-begin`, `to-lead`, `at-line`, `line-room`, `at-end` the loop's moves.
+-- Main laws: `words-grow` words only get more; `mark-all-low` marks stay low; `at-begin`, `to-lead`, `at-line`, `line-room`, `at-end` the loop's moves; `none-left` no line begins on the last row.
 use mathlib.Core.Path.{_≡_, refl, sym, ap, _∙_}
 use mathlib.Core.Bool.{Bool, true, false, cond}
 use mathlib.Core.List.{List, [], _∷_, _++_, append-nil}
 use Prim.Native.Nat.{ℕ, zero, suc, _+_, _-_, _*_, _/_, _%_, _≤_, _<_}
-use native.Mathlib.Nat.{mul-le-mul}
 use native.Mathlib.Omega.{arith}
 use lib.Dec.{eqb, ltb}
 use lib.ListN.{length, take, drop, getD, set, length-append, take-append-drop}
 use lib.Seq.{getD-set-same, getD-set-other, set-out}
 use borrow.Author.Tests.{eqb-true, eqb-false, ne-eqb, ltb-true, ltb-false}
-use Rattle.tally.specs.Tally.{firstFrom}
+use Rattle.tally.specs.Tally.{count, firstFrom}
 use Rattle.tally.proofs.Test.{by-test, no}
 use Rattle.tally.proofs.First.{from-ge, from-le, from-before, from-passes}
 use Rattle.matte.specs.Layout.{Layout}
@@ -20,18 +19,16 @@ use Rattle.edgel.specs.Edgel.{horizontal, first}
 use Rattle.outline.specs.Line.{cutAt, line, isLead, lines}
 use Rattle.outline.specs.List.{encode, levelWords}
 use Rattle.outline.proofs.Border.{Border}
-use Rattle.outline.proofs.Codes.{right-in}
 use Rattle.outline.proofs.Paper.{closedAt}
 use Rattle.outline.proofs.Bytes.{marked, mark, markAll, mark-all-length, mark-past}
-use Rattle.outline.proofs.Places.{Scanned, marks-begin, place-line, line-low, lead-cut}
+use Rattle.outline.proofs.Places.{Scanned, marks-begin, place-line, line-cut, lead-cut}
 use Rattle.outline.proofs.Growing.{linesTo, wordsTo, lines-none, lines-one, lines-skip, lines-whole, words-none, words-line, words-skip, words-whole}
 use Rattle.outline.proofs.Words.{encode-length}
 use Rattle.trace.specs.declared.scan.Written.{Written}
 use Rattle.refuse.specs.Shape.{Ground}
-use Rattle.trace.specs.Trace.{Worn, pasted, fresh}
+use Rattle.trace.specs.Trace.{upper, Worn, pasted, fresh}
 use Rattle.count.proofs.Flat.{border-of}
-use Rattle.trace.proofs.Tracing.{place-in}
-use Rattle.count.proofs.Flat.{cut-column}
+use Rattle.count.proofs.Flat.{cut-above}
 use Rattle.trace.proofs.Scanning.{own, own-not, own-self, paste-on, fresh-lead, over}
 
 -- ---- marks
@@ -86,24 +83,36 @@ module _ (P : Picture) (G : Ground P) (k : ℕ) (L : Layout) where
       let s : i + (size P - i) ≡ size P = omega arith in
       omega (arith, words-grow i (size P - i), ap (λ (z : ℕ). length (W z)) s, ap length (words-whole P k L))
 
-  module _ (from lines₀ : ℕ) (work₀ words₀ : List ℕ) (wide : size P ≤ length work₀) (room : from + length (levelWords L k (lines P k)) ≤ length words₀) where
+  -- on the last row no line begins
+  none-left : (p n : ℕ) → upper P ≤ p → (W (p + n) ≡ W p) × (linesTo P k (p + n) ≡ linesTo P k p)
+  none-left p zero h = let s : p + 0 ≡ p = omega arith in (ap W s, ap (linesTo P k) s)
+  none-left p (suc n) h =
+      let s : p + suc n ≡ suc (p + n) = omega arith in
+      let r = none-left p n h in
+      let e : isLead P k (2 * (p + n)) ≡ false =
+      by-test (isLead P k (2 * (p + n)))
+      (λ t. absurd (omega (arith, cut-above P G k (2 * (p + n)) (lead-cut P B k (2 * (p + n)) t))))
+      (λ t. t) in
+      (ap W s ∙ words-skip P k L (p + n) e ∙ r .0, ap (linesTo P k) s ∙ lines-skip P k (p + n) e ∙ r .1)
+
+  module _ (from lines₀ : ℕ) (work₀ words₀ : List ℕ) (wide : upper P ≤ length work₀) (room : from + length (levelWords L k (lines P k)) ≤ length words₀) where
     pub record At (p : ℕ) (s : Written) (work words : List ℕ) : Type 0 where
-      pub inside : p < size P
+      pub inside : p ≤ upper P
       pub scanned : Scanned P B k p (marked (own k) work)
       pub told : words ≡ pasted words₀ from (W p)
       pub words-so : s .words ≡ from + length (W p)
       pub lines-so : s .lines ≡ lines₀ + length (linesTo P k p)
-      pub worn : Worn (size P) (k + 1) work₀ work
+      pub worn : Worn (upper P) (k + 1) work₀ work
 
     pub record Scanning (p : ℕ) (s : Written) (work words : List ℕ) : Type 0 where
       pub stand : At p s work words
-      pub leads : p < size P - 1 → isLead P k (2 * p) ≡ true
+      pub leads : p < upper P → isLead P k (2 * p) ≡ true
 
-    pub at-begin : ((i : ℕ) → i < size P → getD work₀ i 0 ≤ k) → (s : Written) → s .words ≡ from → s .lines ≡ lines₀ → At 0 s work₀ words₀
+    pub at-begin : ((i : ℕ) → i < upper P → getD work₀ i 0 ≤ k) → (s : Written) → s .words ≡ from → s .lines ≡ lines₀ → At 0 s work₀ words₀
     at-begin q s e f =
         record {
-          inside = omega (arith, mul-le-mul (G .sides .w-least) (G .sides .h-least));
-          scanned = marks-begin P B k (marked (own k) work₀) (λ d o h. own-not k work₀ d (q (first d) (place-in P G k d o)));
+          inside = omega arith;
+          scanned = marks-begin P B k (marked (own k) work₀) (λ d o h. own-not k work₀ d (q (first d) (omega (arith, cut-above P G k d o))));
           told = paste-none words₀ from ∙ ap (pasted words₀ from) (sym (words-none P k L));
           words-so = omega (arith, ap length (words-none P k L));
           lines-so = omega (arith, ap length (lines-none P k));
@@ -111,10 +120,10 @@ module _ (P : Picture) (G : Ground P) (k : ℕ) (L : Layout) where
         }
 
     -- over the places that are not fresh, to the next lead or the last place
-    pub to-lead : (i r : ℕ) (s : Written) (work words : List ℕ) → At i s work words → r ≡ firstFrom (fresh (P .px) work k) i (size P - 1 - i) → Scanning r s work words
+    pub to-lead : (i r : ℕ) (s : Written) (work words : List ℕ) → At i s work words → r ≡ firstFrom (fresh (P .px) work k) i (upper P - i) → Scanning r s work words
     to-lead i r s work words A e =
         let F = fresh (P .px) work k in
-        let n = size P - 1 - i in
+        let n = upper P - i in
         let f = firstFrom F i n in
         let g : i ≤ f = from-ge F i n in
         let h : f ≤ i + n = from-le F i n in
@@ -131,15 +140,18 @@ module _ (P : Picture) (G : Ground P) (k : ℕ) (L : Layout) where
             lines-so = A .lines-so ∙ ap (λ (l : List (List ℕ)). lines₀ + length l) (sym (S .lines-same) ∙ ap (linesTo P k) u);
             worn = A .worn;
           };
-          leads = λ t. fresh-lead P G k work f (omega arith) M (from-passes F i n (omega (arith, A .inside)));
+          leads = λ t. fresh-lead P G k work f (omega (arith, G .sides .w-least)) M (from-passes F i n (omega (arith, A .inside)));
         })
 
-    module _ (p : ℕ) (s : Written) (work words : List ℕ) (Z : Scanning p s work words) (t : p < size P - 1) where
+    module _ (p : ℕ) (s : Written) (work words : List ℕ) (Z : Scanning p s work words) (t : p < upper P) where
       lead : isLead P k (2 * p) ≡ true
       lead = Z .leads t
 
       pub lead-here : cutAt P k (2 * p) ≡ true
       lead-here = lead-cut P B k (2 * p) lead
+
+      in-upper : (c : ℕ) → 0 < count c (line P k (2 * p)) → c < 2 * upper P
+      in-upper c h = cut-above P G k c (line-cut P B k (2 * p) c lead-here h)
 
       next-words : W (suc p) ≡ W p ++ encode L k true (line P k (2 * p))
       next-words = words-line P k L p lead
@@ -156,7 +168,7 @@ module _ (P : Picture) (G : Ground P) (k : ℕ) (L : Layout) where
           rw y
           (record {
             inside = omega arith;
-            scanned = rw u (place-line P B k (own k) (k + 1) (own-self k) p work (omega (arith, wide, Z .stand .worn .long)) (Z .stand .scanned) lead);
+            scanned = rw u (place-line P B k (own k) (k + 1) (own-self k) p work (λ c h. omega (arith, in-upper c h, wide, Z .stand .worn .long)) (Z .stand .scanned) lead);
             told = v
                 ∙ ap (λ (l : List ℕ). pasted l (s .words) (encode L k true (line P k (2 * p)))) (Z .stand .told)
                 ∙ paste-on words₀ from (s .words) (W p) (encode L k true (line P k (2 * p))) (Z .stand .words-so) (omega (arith, line-room))
@@ -165,9 +177,9 @@ module _ (P : Picture) (G : Ground P) (k : ℕ) (L : Layout) where
             lines-so = omega (arith, b, Z .stand .lines-so, ls, lib.ListN.length-append (linesTo P k p) (line P k (2 * p) ∷ []));
             worn = record {
               long = ap length u ∙ mark-all-length (k + 1) work (line P k (2 * p)) ∙ Z .stand .worn .long;
-              low = λ i h. rw u (mark-all-low (k + 1) (size P) work (line P k (2 * p)) (Z .stand .worn .low) i h);
-              rest = ap (drop (size P)) u
-                  ∙ mark-past (k + 1) work (line P k (2 * p)) (size P) (λ c h. line-low P B k (2 * p) c lead-here h)
+              low = λ i h. rw u (mark-all-low (k + 1) (upper P) work (line P k (2 * p)) (Z .stand .worn .low) i h);
+              rest = ap (drop (upper P)) u
+                  ∙ mark-past (k + 1) work (line P k (2 * p)) (upper P) in-upper
                   ∙ Z .stand .worn .rest;
             };
           })
@@ -176,17 +188,14 @@ module _ (P : Picture) (G : Ground P) (k : ℕ) (L : Layout) where
       pub words-are : s .words ≡ from + length (levelWords L k (lines P k))
       pub lines-are : s .lines ≡ lines₀ + length (lines P k)
       pub all : words ≡ pasted words₀ from (levelWords L k (lines P k))
-      pub worn : Worn (size P) (k + 1) work₀ work
+      pub worn : Worn (upper P) (k + 1) work₀ work
 
-    pub at-end : (p : ℕ) (s : Written) (work words : List ℕ) → Scanning p s work words → size P - 1 ≤ p → Done s work words
+    pub at-end : (p : ℕ) (s : Written) (work words : List ℕ) → Scanning p s work words → upper P ≤ p → Done s work words
     at-end p s work words Z h =
-        let y : suc p ≡ size P = omega (arith, Z .stand .inside) in
-        let e : isLead P k (2 * p) ≡ false =
-        by-test (isLead P k (2 * p))
-        (λ t. absurd (omega (arith, right-in (P .w) (P .h) p (Z .stand .inside) (cut-column P G k p (lead-cut P B k (2 * p) t)))))
-        (λ t. t) in
-        let a : W p ≡ levelWords L k (lines P k) = sym (words-skip P k L p e) ∙ ap W y ∙ words-whole P k L in
-        let b : linesTo P k p ≡ lines P k = sym (lines-skip P k p e) ∙ ap (linesTo P k) y ∙ lines-whole P k in
+        let y : p + (size P - p) ≡ size P = omega (arith, Z .stand .inside) in
+        let e : (W (p + (size P - p)) ≡ W p) × (linesTo P k (p + (size P - p)) ≡ linesTo P k p) = none-left p (size P - p) h in
+        let a : W p ≡ levelWords L k (lines P k) = sym (e .0) ∙ ap W y ∙ words-whole P k L in
+        let b : linesTo P k p ≡ lines P k = sym (e .1) ∙ ap (linesTo P k) y ∙ lines-whole P k in
         record {
           words-are = Z .stand .words-so ∙ ap (λ (l : List ℕ). from + length l) a;
           lines-are = Z .stand .lines-so ∙ ap (λ (l : List (List ℕ)). lines₀ + length l) b;

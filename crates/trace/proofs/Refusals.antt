@@ -1,6 +1,6 @@
 -- The rows of the list call one by one. Assumes nothing.
 -- Definitions: `needed` the words needed; `from3` to `from6` the rows from a number on; `Sound` what a list call that is not refused has.
--- Main laws: `at-3` to `at-6`, `at-0` the verdict where a row is the first that is given, or none is; `sound` what a verdict of 0 says.
+-- Main laws: `at-3` to `at-6`, `at-0` the verdict where a row is the first that is given, or none is; `sound`, `accepted` what a verdict of 0 says.
 use mathlib.Core.Path.{_≡_, refl, sym, ap, _∙_}
 use mathlib.Core.Bool.{Bool, true, false}
 use mathlib.Core.List.{List, [], _∷_}
@@ -82,3 +82,7 @@ module _ (L : Layout) (P : Picture) (ks work out : List ℕ) where
         wide = ltb-false (length work) (size P) (d .0);
         room = ltb-false (length out) needed (f .0);
       }
+
+  -- the same of the verdict that was found
+  pub accepted : (v : Verdict) → v ≡ listVerdict L P ks work out → v .number ≡ 0 → Sound
+  accepted v e z = sound (ap (λ (y : Verdict). y .number) (sym e) ∙ z)

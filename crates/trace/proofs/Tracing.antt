@@ -36,8 +36,8 @@ use Rattle.outline.proofs.Paper.{bit, leave-is, enteredAt, next-is, closedAt}
 use Rattle.outline.proofs.Words.{encode-length, encode-plain}
 use Rattle.outline.proofs.Bytes.{mark, markAll, mark-take}
 use Rattle.refuse.specs.Shape.{Ground}
-use Rattle.count.proofs.Flat.{border-of}
-use Rattle.trace.specs.Trace.{pasted}
+use Rattle.count.proofs.Flat.{border-of, cut-above}
+use Rattle.trace.specs.Trace.{upper, pasted}
 
 -- ---- states and cells
 entry-first : (w : ℕ) (g : Heading) (t : ℕ) → first (out w (back g) t) ≡ entry w g t
@@ -112,6 +112,9 @@ module _ (P : Picture) (G : Ground P) (k : ℕ) where
 
       pub place-is : s .place < size P
       place-is = rw (T .state) (place-in (T .c) here)
+
+      pub place-up : s .place < upper P
+      place-up = rw (T .state) (omega (arith, cut-above P G k (T .c) here))
 
       pub in-line : T .i < length (line P k a)
       unfolding line

@@ -154,7 +154,7 @@ fn follow(
     from: usize,
     e: usize,
 ) -> usize
-    requires { ⌜ (Ground (picture w h (now px))) × (k < 255) × (length (now px) ≤ length (now work)) × (cutAt (picture w h (now px)) k (2 * e) ≡ true) × (from + length (line (picture w h (now px)) k (2 * e)) ≤ length (now words)) ⌝ }
+    requires { ⌜ (Ground (picture w h (now px))) × (k < 255) × (length (now px) ≤ length (now work) + w) × (cutAt (picture w h (now px)) k (2 * e) ≡ true) × (from + length (line (picture w h (now px)) k (2 * e)) ≤ length (now words)) ⌝ }
     ensures { λ r. ⌜ (r ≡ from + length (line (picture w h (now (px .entry))) k (2 * e))) × (now (work .exit) ≡ markAll (k + 1) (now (work .entry)) (line (picture w h (now (px .entry))) k (2 * e))) × (now (words .exit) ≡ pasted (now (words .entry)) from (encode eight k false (line (picture w h (now (px .entry))) k (2 * e)))) ⌝ }
 {
     let limit = from + 2 * px.len();
@@ -195,7 +195,7 @@ pub fn trace_line(
     from: usize,
     e: usize,
 ) -> usize
-    requires { ⌜ (Ground (picture w h (now px))) × (k < 255) × (length (now px) ≤ length (now work)) × (cutAt (picture w h (now px)) k (2 * e) ≡ true) × (from + length (line (picture w h (now px)) k (2 * e)) ≤ length (now words)) ⌝ }
+    requires { ⌜ (Ground (picture w h (now px))) × (k < 255) × (length (now px) ≤ length (now work) + w) × (cutAt (picture w h (now px)) k (2 * e) ≡ true) × (from + length (line (picture w h (now px)) k (2 * e)) ≤ length (now words)) ⌝ }
     ensures { λ r. ⌜ (r ≡ from + length (line (picture w h (now (px .entry))) k (2 * e))) × (now (work .exit) ≡ markAll (k + 1) (now (work .entry)) (line (picture w h (now (px .entry))) k (2 * e))) × (now (words .exit) ≡ pasted (now (words .entry)) from (encode eight k true (line (picture w h (now (px .entry))) k (2 * e)))) ⌝ }
 {
     let n = follow(px, w, h, k, work, words, from, e);

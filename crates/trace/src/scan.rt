@@ -23,7 +23,7 @@ pub struct Written {
     pub lines: usize,
 }
 
-// All lines of level k, their words behind those that stand there already.
+// All lines of level k, their words behind those that stand there already. No lead is on the last row, which is border.
 fn level_lines(
     px: &[u8],
     w: usize,
@@ -36,12 +36,12 @@ fn level_lines(
     words: &mut [u32],
     st: Written,
 ) -> Written
-    requires { ⌜ (LevelReady (picture w h (now px)) k (now work) (now words) st) × (Blocks (now px) (now lo) (now hi) blocks) ⌝ }
+    requires { ⌜ (LevelReady (picture w h (now px)) k (now work) (now words) st) × (64 * blocks ≤ length (now px) - w) × (Blocks (now px) (now lo) (now hi) blocks) ⌝ }
     ensures { λ r. ⌜ LevelDone (picture w h (now (px .entry))) k (now (work .entry)) (now (words .entry)) st r (now (work .exit)) (now (words .exit)) ⌝ }
 {
-    let end = px.len() - 1;
+    let end = px.len() - w;
     let mut s = st;
-    let mut p = search(px, work, lo, hi, blocks, k, 0);
+    let mut p = search(px, work, lo, hi, blocks, k, 0, end);
     while p < end {
         let from = s.words;
         let m = s.lines;
@@ -50,7 +50,7 @@ fn level_lines(
             words: n,
             lines: m + 1,
         };
-        p = search(px, work, lo, hi, blocks, k, p + 1);
+        p = search(px, work, lo, hi, blocks, k, p + 1, end);
     }
     s
 }
@@ -67,7 +67,7 @@ pub fn all_levels(
     requires { ⌜ AllReady (picture w h (now px)) (now ks) (now work) (now words) ⌝ }
     ensures { λ r. ⌜ AllDone (picture w h (now (px .entry))) (now (ks .entry)) (now (work .entry)) (now (words .entry)) r (now (work .exit)) (now (words .exit)) ⌝ }
 {
-    let blocks = (px.len() - 1) / 64;
+    let blocks = (px.len() - w) / 64;
     let mut lo = [0u8; 65536];
     let mut hi = [0u8; 65536];
     bounds(px, &mut lo, &mut hi, blocks);

@@ -27,7 +27,7 @@ fn or_top(found: bool, i: u8) -> u8
 
 // One of the 64 places from a on is fresh.
 fn any_in(px: &[u8], work: &[u8], a: usize, k: u8, mark: u8) -> bool
-    requires { ⌜ (a + 64 < length (now px)) × (length (now px) ≤ length (now work)) × (length (now px) ≤ 4194304) × (mark ≡ k + 1) ⌝ }
+    requires { ⌜ (a + 64 < length (now px)) × (a + 64 ≤ length (now work)) × (length (now px) ≤ 4194304) × (mark ≡ k + 1) ⌝ }
     ensures { λ r. ⌜ r ≡ not (every (λ i. not (fresh (now (px .entry)) (now (work .entry)) k (a + i))) 64) ⌝ }
 {
     let mut any: u8 = 0;
@@ -44,7 +44,7 @@ fn any_in(px: &[u8], work: &[u8], a: usize, k: u8, mark: u8) -> bool
 
 // The offset of the first fresh place of the 64 from a on; 64 with none.
 fn least_in(px: &[u8], work: &[u8], a: usize, k: u8, mark: u8) -> u8
-    requires { ⌜ (a + 64 < length (now px)) × (length (now px) ≤ length (now work)) × (length (now px) ≤ 4194304) × (mark ≡ k + 1) ⌝ }
+    requires { ⌜ (a + 64 < length (now px)) × (a + 64 ≤ length (now work)) × (length (now px) ≤ 4194304) × (mark ≡ k + 1) ⌝ }
     ensures { λ r. ⌜ FirstIn (now (px .entry)) (now (work .entry)) k a 0 r ⌝ }
 {
     let mut m: u8 = 64;
@@ -59,7 +59,7 @@ fn least_in(px: &[u8], work: &[u8], a: usize, k: u8, mark: u8) -> u8
 
 // The same; most blocks that the level enters have none left, which is sooner seen.
 fn seen_in(px: &[u8], work: &[u8], a: usize, k: u8, mark: u8) -> u8
-    requires { ⌜ (a + 64 < length (now px)) × (length (now px) ≤ length (now work)) × (length (now px) ≤ 4194304) × (mark ≡ k + 1) ⌝ }
+    requires { ⌜ (a + 64 < length (now px)) × (a + 64 ≤ length (now work)) × (length (now px) ≤ 4194304) × (mark ≡ k + 1) ⌝ }
     ensures { λ r. ⌜ FirstIn (now (px .entry)) (now (work .entry)) k a 0 r ⌝ }
 {
     if any_in(px, work, a, k, mark) {
@@ -70,7 +70,7 @@ fn seen_in(px: &[u8], work: &[u8], a: usize, k: u8, mark: u8) -> u8
 
 // The same, not before the offset s, one by one.
 fn slow_in(px: &[u8], work: &[u8], a: usize, s: u8, k: u8, mark: u8) -> u8
-    requires { ⌜ (a + 64 < length (now px)) × (length (now px) ≤ length (now work)) × (length (now px) ≤ 4194304) × (mark ≡ k + 1) × (s ≤ 64) ⌝ }
+    requires { ⌜ (a + 64 < length (now px)) × (a + 64 ≤ length (now work)) × (length (now px) ≤ 4194304) × (mark ≡ k + 1) × (s ≤ 64) ⌝ }
     ensures { λ r. ⌜ FirstIn (now (px .entry)) (now (work .entry)) k a s r ⌝ }
 {
     let mut i = s;
@@ -86,7 +86,7 @@ fn slow_in(px: &[u8], work: &[u8], a: usize, s: u8, k: u8, mark: u8) -> u8
 
 // The same; where a line was just followed from before s, none is left there, and the first of all 64 is the one.
 fn first_in(px: &[u8], work: &[u8], a: usize, s: u8, k: u8, mark: u8) -> u8
-    requires { ⌜ (a + 64 < length (now px)) × (length (now px) ≤ length (now work)) × (length (now px) ≤ 4194304) × (mark ≡ k + 1) × (s ≤ 64) ⌝ }
+    requires { ⌜ (a + 64 < length (now px)) × (a + 64 ≤ length (now work)) × (length (now px) ≤ 4194304) × (mark ≡ k + 1) × (s ≤ 64) ⌝ }
     ensures { λ r. ⌜ FirstIn (now (px .entry)) (now (work .entry)) k a s r ⌝ }
 {
     let m = least_in(px, work, a, k, mark);
@@ -148,13 +148,12 @@ fn next_live(lo: &[u8; 65536], hi: &[u8; 65536], b: usize, blocks: usize, k: u8)
     scan_live(lo, hi, c, blocks, k)
 }
 
-// The first fresh place from `from` on, or the last place, one by one.
-fn tail(px: &[u8], work: &[u8], k: u8, from: usize) -> usize
-    requires { ⌜ (from < length (now px)) × (length (now px) ≤ length (now work)) × (k < 255) ⌝ }
-    ensures { λ r. ⌜ r ≡ firstFrom (fresh (now (px .entry)) (now (work .entry)) k) from (length (now (px .entry)) - 1 - from) ⌝ }
+// The first fresh place from `from` up to `end`, or `end`, one by one.
+fn tail(px: &[u8], work: &[u8], k: u8, from: usize, end: usize) -> usize
+    requires { ⌜ (from ≤ end) × (end < length (now px)) × (end ≤ length (now work)) × (k < 255) ⌝ }
+    ensures { λ r. ⌜ r ≡ firstFrom (fresh (now (px .entry)) (now (work .entry)) k) from (end - from) ⌝ }
 {
     let mark = k + 1;
-    let end = px.len() - 1;
     let mut p = from;
     while p < end {
         if is_fresh(px[p], px[p + 1], work[p], k, mark) {
@@ -174,14 +173,15 @@ pub fn search(
     blocks: usize,
     k: u8,
     from: usize,
+    end: usize,
 ) -> usize
-    requires { ⌜ (from < length (now px)) × (length (now px) ≤ length (now work)) × (k < 255) × Blocks (now px) (now lo) (now hi) blocks ⌝ }
-    ensures { λ r. ⌜ r ≡ firstFrom (fresh (now (px .entry)) (now (work .entry)) k) from (length (now (px .entry)) - 1 - from) ⌝ }
+    requires { ⌜ (from ≤ end) × (end < length (now px)) × (end ≤ length (now work)) × (k < 255) × (64 * blocks ≤ end) × Blocks (now px) (now lo) (now hi) blocks ⌝ }
+    ensures { λ r. ⌜ r ≡ firstFrom (fresh (now (px .entry)) (now (work .entry)) k) from (end - from) ⌝ }
 {
     let mark = k + 1;
     let first = from / 64;
     if blocks <= first {
-        return tail(px, work, k, from);
+        return tail(px, work, k, from, end);
     }
     let i = first_in(px, work, 64 * first, (from % 64) as u8, k, mark);
     if i < 64 {
@@ -191,7 +191,7 @@ pub fn search(
     while b < blocks {
         let c = next_live(lo, hi, b, blocks, k);
         if blocks <= c {
-            return tail(px, work, k, 64 * blocks);
+            return tail(px, work, k, 64 * blocks, end);
         }
         let j = seen_in(px, work, 64 * c, k, mark);
         if j < 64 {
@@ -199,5 +199,5 @@ pub fn search(
         }
         b = c + 1;
     }
-    tail(px, work, k, 64 * blocks)
+    tail(px, work, k, 64 * blocks, end)
 }

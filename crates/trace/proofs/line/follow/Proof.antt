@@ -12,7 +12,7 @@ use Rattle.edgel.specs.declared.Heading.the-variants.{East, West}
 use Rattle.step.specs.declared.State.{State}
 use Rattle.outline.specs.Line.{cutAt, line}
 use Rattle.refuse.specs.Shape.{Ground}
-use Rattle.trace.proofs.Tracing.{Tracing, begin, never, place-in, place-is, in-line, set-off}
+use Rattle.trace.proofs.Tracing.{Tracing, begin, never, place-in, place-up, in-line, set-off}
 use Rattle.trace.proofs.Arriving.{Arrived, arrive, moving, arrive-tall, east-is, west-is, east-tall, west-tall}
 use Rattle.count.proofs.Flat.{area-most}
 use Rattle.trace.proofs.line.follow.Statement.{statement}
@@ -81,7 +81,7 @@ stride-requires c κs =
     let l = c .before .before .before .loop in
     let T = l .inv .2 (z .pre .0) (z .pre .3) in (
       set-off P (z .pre .0) (a .k) eight (a .e) (z .pre .3) (a .from) (a .work .now) (a .words .now) (z .pre .4) (l .n) (l .s) (l .work) (l .words) T,
-      omega (arith, place-is P (z .pre .0) (a .k) eight (a .e) (z .pre .3) (a .from) (a .work .now) (a .words .now) (z .pre .4) (l .n) (l .s) (l .work) (l .words) T, z .pre .0 .whole, z .pre .2, l .inv .0),
+      omega (arith, place-up P (z .pre .0) (a .k) eight (a .e) (z .pre .3) (a .from) (a .work .now) (a .words .now) (z .pre .4) (l .n) (l .s) (l .work) (l .words) T, z .pre .0 .whole, z .pre .2, l .inv .0),
       omega (arith, T .done, in-line P (z .pre .0) (a .k) eight (a .e) (z .pre .3) (a .from) (a .work .now) (a .words .now) (z .pre .4) (l .n) (l .s) (l .work) (l .words) T, l .inv .1, z .pre .4),
       z .pre .1,
     )

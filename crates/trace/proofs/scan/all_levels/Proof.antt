@@ -6,7 +6,8 @@ use lib.ListN.{length, getD, length-replicate}
 use Rattle.matte.specs.Picture.{picture}
 use Rattle.trace.specs.Level.{AllReady}
 use Rattle.trace.specs.Search.{Blocks}
-use Rattle.count.proofs.Flat.{area-most, some}
+use Rattle.count.proofs.Flat.{area-most}
+use Rattle.count.proofs.Counting.{row-fits}
 use Rattle.trace.proofs.All.{Listing, all-begin, level-ready, all-go, all-end}
 use Rattle.trace.proofs.scan.all_levels.Statement.{statement}
 use Rattle.trace.proofs.scan.all_levels.Tie as tie
@@ -22,12 +23,12 @@ abbrev μ-loop : tie.MeasureT-loop
 μ-loop px w h ks work₀ words₀ blocks lo hi s₀ j₀ work words s j = length ks - j
 
 sub-blocks : tie.Need-sub-blocks Inv-loop μ-loop
-sub-blocks c = some (c .before .before .before .before .pre .ground)
+sub-blocks c = omega (arith, row-fits (c .before .before .before .before .pre .ground))
 
 bounds-requires : tie.Need-bounds-requires Inv-loop μ-loop
 bounds-requires c κs =
     let G = c .before .before .before .before .before .before .pre .ground in
-    (omega (arith, some G), area-most G, length-replicate {A = ℕ} 65536 0, length-replicate {A = ℕ} 65536 0)
+    (omega (arith, row-fits G, G .sides .w-least), area-most G, length-replicate {A = ℕ} 65536 0, length-replicate {A = ℕ} 65536 0)
 
 loop-holds : tie.Need-loop-holds Inv-loop μ-loop
 loop-holds c =
@@ -36,7 +37,7 @@ loop-holds c =
       refl,
       refl,
       λ R. all-begin (picture (a .w) (a .h) (a .px .now)) (a .ks .now) (a .work .now) (a .words .now) R,
-      record { inside = omega (arith, some (z .pre .ground)); few = area-most (z .pre .ground); lows = c .bounds .ensures .0; highs = c .bounds .ensures .1 },
+      record { inside = omega (arith, row-fits (z .pre .ground), z .pre .ground .sides .w-least); few = area-most (z .pre .ground); lows = c .bounds .ensures .0; highs = c .bounds .ensures .1 },
     )
 
 shared-slice-read-k : tie.Need-shared-slice-read-k Inv-loop μ-loop
@@ -48,7 +49,7 @@ level-lines-requires c κs =
     let a = z .args in
     let R = z .pre in
     let l = c .before .before .before .before .before .before .loop in
-    (level-ready (picture (a .w) (a .h) (a .px .now)) (a .ks .now) (a .work .now) (a .words .now) R (l .j) (c .before .before .before .before .before .loop-test .taken) (l .s) (l .work) (l .words) (l .inv .2 R) (l .inv .1), l .inv .3)
+    (level-ready (picture (a .w) (a .h) (a .px .now)) (a .ks .now) (a .work .now) (a .words .now) R (l .j) (c .before .before .before .before .before .loop-test .taken) (l .s) (l .work) (l .words) (l .inv .2 R) (l .inv .1), omega arith, l .inv .3)
 
 add-j : tie.Need-add-j Inv-loop μ-loop
 add-j c = omega (arith, c .before .before .before .before .before .before .before .before .before .before .loop-test .taken, c .before .before .before .before .before .before .before .before .before .before .before .before .before .before .before .before .before .before .before .good .1 .1 .1 .0 .0)

@@ -8,12 +8,13 @@ use lib.ListN.{length, getD}
 use Rattle.tally.specs.Tally.{firstFrom}
 use Rattle.tally.proofs.First.{from-ge}
 use Rattle.matte.specs.Layout.{eight}
-use Rattle.matte.specs.Picture.{picture, size}
+use Rattle.matte.specs.Picture.{picture}
 use Rattle.outline.specs.Line.{line}
 use Rattle.refuse.specs.Shape.{Ground}
-use Rattle.trace.specs.Trace.{fresh}
+use Rattle.trace.specs.Trace.{upper, fresh}
 use Rattle.trace.specs.Level.{LevelReady}
-use Rattle.count.proofs.Flat.{area-most, some}
+use Rattle.count.proofs.Flat.{area-most}
+use Rattle.count.proofs.Counting.{row-fits}
 use Rattle.trace.proofs.Flag.{line-cons}
 use Rattle.trace.proofs.Level.{Scanning, at-begin, to-lead, lead-here, line-room, at-line, at-end}
 use Rattle.trace.proofs.scan.level_lines.Statement.{statement}
@@ -27,15 +28,16 @@ Inv-loop px w h k lo hi blocks work₀ words₀ end s₀ p₀ work words s p =
     × ((R : LevelReady (picture w h px) k work₀ words₀ s₀) → Scanning (picture w h px) (R .ground) k eight (s₀ .words) (s₀ .lines) work₀ words₀ (R .wide) (R .room) p s work words)
 
 abbrev μ-loop : tie.MeasureT-loop
-μ-loop px w h k lo hi blocks work₀ words₀ end s₀ p₀ work words s p = length px - 1 - p
+μ-loop px w h k lo hi blocks work₀ words₀ end s₀ p₀ work words s p = length px - w - p
 
 sub-end : tie.Need-sub-end Inv-loop μ-loop
-sub-end c = omega (arith, some (c .before .before .before .pre .0 .ground))
+sub-end c = omega (arith, row-fits (c .before .before .before .pre .0 .ground))
 
 search-requires : tie.Need-search-requires Inv-loop μ-loop
 search-requires c κs =
     let z = c .before .before .before .before in
-    (some (z .pre .0 .ground), omega (arith, z .pre .0 .ground .whole, z .pre .0 .wide), z .pre .0 .level, z .pre .1)
+    let R = z .pre .0 in
+    (omega arith, omega (arith, row-fits (R .ground), R .ground .sides .w-least), omega (arith, R .ground .whole, R .wide), R .level, z .pre .1, z .pre .2)
 
 loop-holds : tie.Need-loop-holds Inv-loop μ-loop
 loop-holds c =
@@ -45,7 +47,7 @@ loop-holds c =
       refl,
       z .pre .0 .fewer,
       λ R. to-lead (picture (a .w) (a .h) (a .px .now)) (R .ground) (a .k) eight (a .st .words) (a .st .lines) (a .work .now) (a .words .now) (R .wide) (R .room) 0 (c .search .result) (a .st) (a .work .now) (a .words .now) (at-begin (picture (a .w) (a .h) (a .px .now)) (R .ground) (a .k) eight (a .st .words) (a .st .lines) (a .work .now) (a .words .now) (R .wide) (R .room) (R .low) (a .st) refl refl)
-          (c .search .ensures ∙ ap (λ (n : ℕ). firstFrom (fresh (a .px .now) (a .work .now) (a .k)) 0 (n - 1 - 0)) (R .ground .whole)),
+          (c .search .ensures ∙ ap (λ (n : ℕ). firstFrom (fresh (a .px .now) (a .work .now) (a .k)) 0 (n - a .w - 0)) (R .ground .whole)),
     )
 
 trace-line-requires : tie.Need-trace-line-requires Inv-loop μ-loop
@@ -55,7 +57,7 @@ trace-line-requires c κs =
     let R = z .pre .0 in
     let l = c .before .before .before .loop in
     let Z = l .inv .3 R in
-    let t : l .p < size (picture (a .w) (a .h) (a .px .now)) - 1 = omega (arith, c .before .before .loop-test .taken, R .ground .whole) in (
+    let t : l .p < upper (picture (a .w) (a .h) (a .px .now)) = omega (arith, c .before .before .loop-test .taken, R .ground .whole) in (
       R .ground,
       R .level,
       omega (arith, R .ground .whole, R .wide, l .inv .0),
@@ -70,7 +72,7 @@ add-search c =
     let R = z .pre .0 in
     let l = c .before .before .before .before .before .before .before .before .loop in
     let Z = l .inv .3 R in
-    let t : l .p < size (picture (a .w) (a .h) (a .px .now)) - 1 = omega (arith, c .before .before .before .before .before .before .before .loop-test .taken, R .ground .whole) in
+    let t : l .p < upper (picture (a .w) (a .h) (a .px .now)) = omega (arith, c .before .before .before .before .before .before .before .loop-test .taken, R .ground .whole) in
     omega (arith, l .inv .2, line-room (picture (a .w) (a .h) (a .px .now)) (R .ground) (a .k) eight (a .st .words) (a .st .lines) (a .work .now) (a .words .now) (R .wide) (R .room) (l .p) (l .s) (l .work) (l .words) Z t, z .good .1 .1 .1 .1 .1 .1 .1 .1 .0 .1)
 
 add-search-2 : tie.Need-add-search-2 Inv-loop μ-loop
@@ -89,8 +91,8 @@ search-requires-2 c κs =
     let R = z .pre .0 in
     let l = c .before .before .before .before .before .before .before .before .before .loop in
     let Z = l .inv .3 R in
-    let t : l .p < size (picture (a .w) (a .h) (a .px .now)) - 1 = omega (arith, c .before .before .before .before .before .before .before .before .loop-test .taken, R .ground .whole) in
-    (omega (arith, R .ground .whole), omega (arith, c .before .before .before .before .before .trace-line .kept .1 .1 .1 .1 .0, l .inv .0, R .ground .whole, R .wide), R .level, z .pre .1)
+    let t : l .p < upper (picture (a .w) (a .h) (a .px .now)) = omega (arith, c .before .before .before .before .before .before .before .before .loop-test .taken, R .ground .whole) in
+    (omega (arith, R .ground .whole), omega (arith, row-fits (R .ground), R .ground .sides .w-least), omega (arith, c .before .before .before .before .before .trace-line .kept .1 .1 .1 .1 .0, l .inv .0, R .ground .whole, R .wide), R .level, z .pre .1, z .pre .2)
 
 loop-less : tie.Need-loop-less Inv-loop μ-loop
 loop-less c =
@@ -99,7 +101,7 @@ loop-less c =
     let R = z .pre .0 in
     let l = c .before .before .before .before .before .before .before .before .before .before .loop in
     let Z = l .inv .3 R in
-    omega (arith, c .before .before .before .before .before .before .before .before .before .loop-test .taken, c .search2 .ensures, from-ge (fresh (a .px .now) (c .before .before .before .before .before .before .trace-line .last .1 .1 .1 .1 .0) (a .k)) (l .p + 1) (length (a .px .now) - 1 - (l .p + 1)))
+    omega (arith, c .before .before .before .before .before .before .before .before .before .loop-test .taken, c .search2 .ensures, from-ge (fresh (a .px .now) (c .before .before .before .before .before .before .trace-line .last .1 .1 .1 .1 .0) (a .k)) (l .p + 1) (length (a .px .now) - a .w - (l .p + 1)))
 
 loop-again : tie.Need-loop-again Inv-loop μ-loop
 loop-again c =
@@ -108,7 +110,7 @@ loop-again c =
     let R = z .pre .0 in
     let l = c .before .before .before .before .before .before .before .before .before .before .loop in
     let Z = l .inv .3 R in
-    let t : l .p < size (picture (a .w) (a .h) (a .px .now)) - 1 = omega (arith, c .before .before .before .before .before .before .before .before .before .loop-test .taken, R .ground .whole) in
+    let t : l .p < upper (picture (a .w) (a .h) (a .px .now)) = omega (arith, c .before .before .before .before .before .before .before .before .before .loop-test .taken, R .ground .whole) in
     let r = c .before .before .before .before .before .before .trace-line in
     let n = line-cons (picture (a .w) (a .h) (a .px .now)) (R .ground) (a .k) (2 * l .p) (lead-here (picture (a .w) (a .h) (a .px .now)) (R .ground) (a .k) eight (a .st .words) (a .st .lines) (a .work .now) (a .words .now) (R .wide) (R .room) (l .p) (l .s) (l .work) (l .words) Z t) in (
       r .kept .1 .1 .1 .1 .0 ∙ l .inv .0,
@@ -116,7 +118,7 @@ loop-again c =
       omega (arith, l .inv .2, r .ensures .0, ap length (n .1)),
       λ Q. to-lead (picture (a .w) (a .h) (a .px .now)) (Q .ground) (a .k) eight (a .st .words) (a .st .lines) (a .work .now) (a .words .now) (Q .wide) (Q .room) (l .p + 1) (c .search2 .result) _ _ _
           (at-line (picture (a .w) (a .h) (a .px .now)) (Q .ground) (a .k) eight (a .st .words) (a .st .lines) (a .work .now) (a .words .now) (Q .wide) (Q .room) (l .p) (l .s) (l .work) (l .words) (l .inv .3 Q) t _ _ _ (r .ensures .0) refl (r .ensures .1) (r .ensures .2))
-          (c .search2 .ensures ∙ ap (λ (m : ℕ). firstFrom (fresh (a .px .now) (r .last .1 .1 .1 .1 .0) (a .k)) (l .p + 1) (m - 1 - (l .p + 1))) (Q .ground .whole)),
+          (c .search2 .ensures ∙ ap (λ (m : ℕ). firstFrom (fresh (a .px .now) (r .last .1 .1 .1 .1 .0) (a .k)) (l .p + 1) (m - a .w - (l .p + 1))) (Q .ground .whole)),
     )
 
 same-length : tie.Need-same-length Inv-loop μ-loop

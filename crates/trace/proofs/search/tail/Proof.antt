@@ -14,16 +14,13 @@ use Rattle.trace.proofs.search.tail.Statement.{statement}
 use Rattle.trace.proofs.search.tail.Tie as tie
 
 abbrev Inv-loop : tie.InvT-loop
-Inv-loop px work k from mark end p₀ p = (from ≤ p) × (p ≤ length px - 1) × ((j : ℕ) → from ≤ j → j < p → fresh px work k j ≡ false)
+Inv-loop px work k from end mark p₀ p = (from ≤ p) × (p ≤ end) × ((j : ℕ) → from ≤ j → j < p → fresh px work k j ≡ false)
 
 abbrev μ-loop : tie.MeasureT-loop
-μ-loop px work k from mark end p₀ p = length px - 1 - p
+μ-loop px work k from end mark p₀ p = end - p
 
 add-mark : tie.Need-add-mark Inv-loop μ-loop
 add-mark c = search needs
-
-sub-end : tie.Need-sub-end Inv-loop μ-loop
-sub-end c = omega arith
 
 loop-holds : tie.Need-loop-holds Inv-loop μ-loop
 loop-holds c = (omega arith, omega arith, λ j a b. absurd (omega arith))
@@ -48,7 +45,7 @@ returns c =
     let z = c .before .before .before .before .before .before .before .before .before in
     let a = z .args in
     let l = c .before .before .before .before .before .before .loop in
-    sym (from-is (fresh (a .px .now) (a .work .now) (a .k)) (a .from) (length (a .px .now) - 1 - a .from) (l .p) (l .inv .0) (omega (arith, l .inv .1, l .inv .0)) (l .inv .2) (λ t. sym (c .before .is-fresh .ensures) ∙ c .if1 .taken))
+    sym (from-is (fresh (a .px .now) (a .work .now) (a .k)) (a .from) (a .end - a .from) (l .p) (l .inv .0) (omega (arith, l .inv .1, l .inv .0)) (l .inv .2) (λ t. sym (c .before .is-fresh .ensures) ∙ c .if1 .taken))
 
 add-p : tie.Need-add-p Inv-loop μ-loop
 add-p c = omega arith
@@ -74,7 +71,7 @@ returns-2 c =
     let z = c .before .before .before .before in
     let a = z .args in
     let l = c .before .loop in
-    sym (from-is (fresh (a .px .now) (a .work .now) (a .k)) (a .from) (length (a .px .now) - 1 - a .from) (l .p) (l .inv .0) (omega (arith, l .inv .1, l .inv .0)) (l .inv .2) (λ t. absurd (omega (arith, c .loop-test .left, l .inv .0))))
+    sym (from-is (fresh (a .px .now) (a .work .now) (a .k)) (a .from) (a .end - a .from) (l .p) (l .inv .0) (omega (arith, l .inv .1, l .inv .0)) (l .inv .2) (λ t. absurd (omega (arith, c .loop-test .left, l .inv .0))))
 
 pub tail-spec : {M : Type 1} → statement M
 tail-spec =
@@ -83,7 +80,6 @@ tail-spec =
     Inv-loop
     μ-loop
     add-mark
-    sub-end
     loop-holds
     shared-slice-read-is-fresh
     add-is-fresh

@@ -80,7 +80,7 @@ pub fn count_words(px: &[u8], w: usize, h: usize, ks: &[u8]) -> usize
     requires { ⌜ (Ground (picture w h (now px))) × (levelsFit eight (now ks) ≡ true) ⌝ }
     ensures { λ r. ⌜ r ≡ length (listed eight (picture w h (now (px .entry))) (now (ks .entry))) ⌝ }
 {
-    if ks.len() < 5 {
+    if ks.len() < 4 {
         return by_levels(px, w, h, ks);
     }
     by_steps(px, w, h, ks)

@@ -1,10 +1,9 @@
 -- Counting by rows of steps. Assumes nothing.
 -- Definitions: `Counted` the rows above row y are counted, and a buffer holds the steps of row y.
--- Main laws: `row-none`, `row-more`, `row-whole` a row of steps is filled one by one; `gaps-none`, `gaps-more` a row of distances likewise; `gaps-both` the sums of two such rows; `part-none`, `part-more`, `part-piece` a sum one by one and piece by piece; `start`, `go`, `end` the first row, one row more, and the last; `below` the row below lies within; `room-at` what the rows ask of a picture.
+-- Main laws: `stored` what holds of each element stored so far; `row-none`, `row-more`, `row-whole` a row of steps is filled one by one; `distances-none`, `distances-more` a row of distances likewise; `distances-both` the sums of two such rows; `part-none`, `part-more`, `part-piece` a sum one by one and piece by piece; `begin`, `go`, `end` the first row, one row more, and the last; `below` the row below lies within; `room-at` what the rows ask of a picture.
 use mathlib.Core.Path.{_≡_, refl, sym, ap, subst, _∙_}
-use mathlib.Core.Bool.{true}
 use mathlib.Core.List.{List}
-use Prim.Native.Nat.{ℕ, zero, suc, _+_, _-_, _*_, _/_, _%_, _≤_, _<_}
+use Prim.Native.Nat.{ℕ, _+_, _-_, _*_, _%_, _≤_, _<_}
 use native.Mathlib.Nat.{mul-le-mul-left, add-zero}
 use native.Mathlib.Omega.{arith}
 use lib.Dec.{eqb}
@@ -16,10 +15,10 @@ use Rattle.tally.specs.Tally.{apart, sum}
 use Rattle.tally.proofs.Test.{by-test}
 use Rattle.tally.proofs.Sum.{sum-same, sum-next, sum-plus, sum-cut}
 use Rattle.matte.specs.Layout.{eight}
-use Rattle.matte.specs.Picture.{Picture, size, at, levelsFit}
+use Rattle.matte.specs.Picture.{Picture, size, at}
 use Rattle.outline.specs.List.{listed}
 use Rattle.refuse.specs.Shape.{Ground}
-use Rattle.count.specs.Steps.{steps, stepTable, Room, Row, Gaps, gaps, places}
+use Rattle.count.specs.Steps.{steps, stepTable, Room, Row, Distances, gaps, places}
 use Rattle.count.proofs.Flat.{area-most}
 use Rattle.count.proofs.Steps.{table-at, listed-places, row-end}
 
@@ -47,19 +46,19 @@ pub row-whole : (t px q : List ℕ) (from x w : ℕ) → x ≤ w → w ≤ x →
 row-whole t px q from x w a b R = let e : x ≡ w = omega arith in subst (λ (k : ℕ). Row t px from k q) e R
 
 -- ---- a row of distances
-pub gaps-none : (p q d : List ℕ) (s : ℕ) → length d ≡ 2048 → Gaps p q s 0 d
-gaps-none p q d s e = record { room = e; entry = λ x h. absurd (omega arith) }
+pub distances-none : (p q d : List ℕ) (s : ℕ) → length d ≡ 2048 → Distances p q s 0 d
+distances-none p q d s e = record { room = e; entry = λ x h. absurd (omega arith) }
 
-pub gaps-more : (p q d : List ℕ) (s x v : ℕ) → Gaps p q s x d → x < 2048 → v ≡ apart (getD p x 0) (getD q (x + s) 0) → Gaps p q s (x + 1) (set d x v)
-gaps-more p q d s x v R h e =
+pub distances-more : (p q d : List ℕ) (s x v : ℕ) → Distances p q s x d → x < 2048 → v ≡ apart (getD p x 0) (getD q (x + s) 0) → Distances p q s (x + 1) (set d x v)
+distances-more p q d s x v R h e =
     record {
       room = simp length-set (R .room);
       entry = stored (λ c y. y ≡ apart (getD p c 0) (getD q (c + s) 0)) d x v (omega (arith, R .room)) (R .entry) e;
     }
 
 -- the sums along the row and to the row below make up the distances
-pub gaps-both : (p q d f : List ℕ) (end n m : ℕ) → Gaps p p 1 end d → Gaps p q 0 end f → n ≡ sum (λ i. getD d i 0) end → m ≡ sum (λ i. getD f i 0) end → n + m ≡ sum (gaps p q) end
-gaps-both p q d f end n m D F a b =
+pub distances-both : (p q d f : List ℕ) (end n m : ℕ) → Distances p p 1 end d → Distances p q 0 end f → n ≡ sum (λ i. getD d i 0) end → m ≡ sum (λ i. getD f i 0) end → n + m ≡ sum (gaps p q) end
+distances-both p q d f end n m D F a b =
     let g : ℕ → ℕ = λ i. apart (getD p i 0) (getD p (i + 1) 0) in
     let h : ℕ → ℕ = λ i. apart (getD p i 0) (getD q i 0) in
     ap (λ (z : ℕ). z + m) (a ∙ sum-same (λ i. getD d i 0) g end (D .entry))

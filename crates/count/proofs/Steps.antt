@@ -2,7 +2,7 @@
 -- Main laws: `steps-passed`, `steps-stays`, `steps-over` the step of v + 1 from that of v: one more where the level at that index is at most v, else the same; `level-in`, `level-past` a level by its index; `steps-sum` a byte's step is a sum over as many indices as there are levels, or more; `table-at` an entry of the table; `steps-few` a step is a byte; `steps-none`;
 --   `listed-places` the list has as many words as the steps of all neighbours above the last row are apart; `row-end` nothing at a row's last place.
 use mathlib.Core.Path.{_≡_, refl, sym, ap, _∙_}
-use mathlib.Core.Bool.{Bool, true, false, _&&_}
+use mathlib.Core.Bool.{Bool, true, _&&_}
 use mathlib.Core.List.{List, [], _∷_}
 use Prim.Native.Nat.{ℕ, zero, suc, _+_, _-_, _*_, _/_, _%_, _≤_, _<_}
 use native.Mathlib.Nat.{zero-add, div-add-mod'}
@@ -23,7 +23,7 @@ use Rattle.outline.proofs.Counting.{cut-steps}
 use Rattle.outline.proofs.Listed.{listed-length}
 use Rattle.refuse.specs.Shape.{Ground}
 use Rattle.count.specs.Count.{crossings, pairAt}
-use Rattle.count.specs.Steps.{steps, levelAt, stepTable, places}
+use Rattle.count.specs.Steps.{steps, levelOr, stepTable, places}
 use Rattle.count.proofs.Flat.{border-of}
 use Rattle.count.proofs.Counting.{crossings-sum, levels-few}
 
@@ -86,24 +86,24 @@ module _ (ks : List ℕ) (e : levelsFit eight ks ≡ true) (j v : ℕ) (p : j �
 
 -- ---- by index
 -- within the list, and past its end
-pub level-in : (ks : List ℕ) (j : ℕ) → j < length ks → getD ks j 0 ≡ levelAt ks j
+pub level-in : (ks : List ℕ) (j : ℕ) → j < length ks → getD ks j 0 ≡ levelOr ks j
 level-in [] j h = absurd (omega arith)
 level-in (k ∷ ks) zero h = refl
 level-in (k ∷ ks) (suc j) h = level-in ks j (omega arith)
 
-pub level-past : (ks : List ℕ) (j : ℕ) → length ks ≤ j → 255 ≡ levelAt ks j
+pub level-past : (ks : List ℕ) (j : ℕ) → length ks ≤ j → 255 ≡ levelOr ks j
 level-past [] j h = refl
 level-past (k ∷ ks) zero h = absurd (omega arith)
 level-past (k ∷ ks) (suc j) h = level-past ks j (omega arith)
 
 -- no byte is above 255, so that the indices past the end add nothing
-pub steps-sum : (ks : List ℕ) (m v : ℕ) → length ks ≤ m → v < 256 → steps ks v ≡ sum (λ j. one (ltb (levelAt ks j) v)) m
+pub steps-sum : (ks : List ℕ) (m v : ℕ) → length ks ≤ m → v < 256 → steps ks v ≡ sum (λ j. one (ltb (levelOr ks j) v)) m
 unfolding tally sum
 steps-sum [] m v h b = sym (sum-none (λ j. one (ltb 255 v)) m (λ j l. ap one (le-ltb 255 v (omega arith))))
 steps-sum (k ∷ ks) zero v h b = absurd (omega arith)
 steps-sum (k ∷ ks) (suc m) v h b =
-    let f : ℕ → ℕ = λ j. one (ltb (levelAt ks j) v) in
-    let g : ℕ → ℕ = λ j. one (ltb (levelAt (k ∷ ks) j) v) in
+    let f : ℕ → ℕ = λ j. one (ltb (levelOr ks j) v) in
+    let g : ℕ → ℕ = λ j. one (ltb (levelOr (k ∷ ks) j) v) in
     let s : suc m ≡ 1 + m = omega arith in
     let t : sum (λ j. g (1 + j)) m ≡ sum f m = sum-same (λ j. g (1 + j)) f m (λ j l. let e : 1 + j ≡ suc j = omega arith in ap g e) in
     let r : steps ks v ≡ sum f m = steps-sum ks m v (omega arith) b in

@@ -1,5 +1,5 @@
 -- Samples by how many listed levels they are high at. Assumes nothing.
--- Definitions: `steps ks s` how many listed levels the sample s is high at; `stepTable` the same for all bytes; `levelAt` a level by its index; `Room` a row lies within the samples and a buffer can hold it; `Row` a buffer begins with the steps of a row; `Gaps` one begins with the distances of two rows; `gaps` how far the steps of a
+-- Definitions: `steps ks s` how many listed levels the sample s is high at; `stepTable` the same for all bytes; `levelOr` a level by its index; `Room` a row lies within the samples and a buffer can hold it; `Row` a buffer begins with the steps of a row; `Distances` one begins with the distances of two rows; `gaps` how far the steps of a
 --   sample are from those of its right neighbour and of the one below; `places` the same at a place of a picture.
 use mathlib.Core.Path.{_≡_}
 use mathlib.Core.List.{List}
@@ -18,8 +18,8 @@ abbrev pub stepTable : List ℕ → List ℕ
 stepTable ks = build (steps ks) 0 256
 
 -- the level at an index of the list, past its end 255
-abbrev pub levelAt : List ℕ → ℕ → ℕ
-levelAt ks j = getD ks j 255
+abbrev pub levelOr : List ℕ → ℕ → ℕ
+levelOr ks j = getD ks j 255
 
 -- the w samples from `from` on are there, and q has room for them
 pub record Room (px : List ℕ) (from w : ℕ) (q : List ℕ) : Type 0 where
@@ -34,7 +34,7 @@ pub record Row (t px : List ℕ) (from w : ℕ) (q : List ℕ) : Type 0 where
   pub entry : (x : ℕ) → x < w → (getD px (from + x) 0 < 256) × (getD q x 0 ≡ getD t (getD px (from + x) 0) 0)
 
 -- d begins with the distances of p's first `end` elements from those of q, taken s places on
-pub record Gaps (p q : List ℕ) (s end : ℕ) (d : List ℕ) : Type 0 where
+pub record Distances (p q : List ℕ) (s end : ℕ) (d : List ℕ) : Type 0 where
   pub room : length d ≡ 2048
   pub entry : (x : ℕ) → x < end → getD d x 0 ≡ apart (getD p x 0) (getD q (x + s) 0)
 

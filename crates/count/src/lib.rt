@@ -2,6 +2,8 @@
 mod stepped;
 
 use stepped::by_steps;
+pub use stepped::gap;
+pub use stepped::step_table;
 ghost use mathlib.Core.Path.{_≡_};
 ghost use mathlib.Core.Bool.{Bool, true, false};
 ghost use Prim.Native.Nat.{ℕ, _+_, _*_, _-_, _≤_, _<_};
@@ -75,7 +77,7 @@ fn by_levels(px: &[u8], w: usize, h: usize, ks: &[u8]) -> usize
     n
 }
 
-// The words of the list: with few levels level by level, else by steps, which takes the same time for any number of levels.
+// The words of the list: with up to three levels level by level, else by steps, in one pass for all levels.
 pub fn count_words(px: &[u8], w: usize, h: usize, ks: &[u8]) -> usize
     requires { ⌜ (Ground (picture w h (now px))) × (levelsFit eight (now ks) ≡ true) ⌝ }
     ensures { λ r. ⌜ r ≡ length (listed eight (picture w h (now (px .entry))) (now (ks .entry))) ⌝ }

@@ -1,8 +1,8 @@
 // Counting by steps: a sample's step is the number of listed levels that it is high at, and an edgel is crossed as often as the steps of its ends are apart.
 use crate::one_if;
 ghost use mathlib.Core.Path.{_≡_};
-ghost use mathlib.Core.Bool.{Bool, true, false};
-ghost use Prim.Native.Nat.{ℕ, _+_, _*_, _-_, _≤_, _<_};
+ghost use mathlib.Core.Bool.{true};
+ghost use Prim.Native.Nat.{_+_, _*_, _-_, _≤_, _<_};
 ghost use lib.Dec.{ltb};
 ghost use lib.ListN.{length, getD};
 ghost use Rattle.tally.specs.Tally.{one, sum, apart};
@@ -10,10 +10,10 @@ ghost use Rattle.matte.specs.Layout.{eight};
 ghost use Rattle.matte.specs.Picture.{picture, levelsFit};
 ghost use Rattle.outline.specs.List.{listed};
 ghost use Rattle.refuse.specs.Shape.{Ground};
-ghost use Rattle.count.specs.Steps.{steps, levelAt, stepTable, Room, Row, Gaps, gaps};
+ghost use Rattle.count.specs.Steps.{steps, levelOr, stepTable, Room, Row, Distances, gaps};
 
 // How far two steps are apart.
-fn gap(a: u8, b: u8) -> u8
+pub fn gap(a: u8, b: u8) -> u8
     ensures { λ r. ⌜ (r ≡ apart a b) × (r ≤ 255) ⌝ }
 {
     if a < b { b - a } else { a - b }
@@ -34,7 +34,7 @@ fn passed(ks: &[u8], j: usize, v: usize) -> usize
 }
 
 // The steps of all bytes.
-fn step_table(ks: &[u8]) -> [u8; 256]
+pub fn step_table(ks: &[u8]) -> [u8; 256]
     requires { ⌜ levelsFit eight (now ks) ≡ true ⌝ }
     ensures { λ r. ⌜ r ≡ stepTable (now (ks .entry)) ⌝ }
 {
@@ -49,7 +49,7 @@ fn step_table(ks: &[u8]) -> [u8; 256]
     t
 }
 
-// The steps of the w samples from `from` on.
+// The steps of the w samples from `from` on, by the table.
 fn row_steps(t: &[u8; 256], px: &[u8], from: usize, w: usize, q: &mut [u8; 2048])
     requires { ⌜ Room (now px) from w (now q) ⌝ }
     ensures { λ r. ⌜ Row (now (t .entry)) (now (px .entry)) from w (now (q .exit)) ⌝ }
@@ -64,7 +64,7 @@ fn row_steps(t: &[u8; 256], px: &[u8], from: usize, w: usize, q: &mut [u8; 2048]
 
 // The level at an index, or 255, which no sample is above.
 fn level_or(ks: &[u8], j: usize) -> u8
-    ensures { λ r. ⌜ r ≡ levelAt (now (ks .entry)) j ⌝ }
+    ensures { λ r. ⌜ r ≡ levelOr (now (ks .entry)) j ⌝ }
 {
     if j < ks.len() {
         return ks[j];
@@ -72,7 +72,7 @@ fn level_or(ks: &[u8], j: usize) -> u8
     255
 }
 
-// The step of v by eight levels.
+// The step of v by eight levels, each under a name of its own, so that many samples are compared at a time.
 fn step8(k0: u8, k1: u8, k2: u8, k3: u8, k4: u8, k5: u8, k6: u8, k7: u8, v: u8) -> u8
     ensures { λ r. ⌜ r ≡ one (ltb k0 v) + one (ltb k1 v) + one (ltb k2 v) + one (ltb k3 v) + one (ltb k4 v) + one (ltb k5 v) + one (ltb k6 v) + one (ltb k7 v) ⌝ }
 {
@@ -106,7 +106,7 @@ fn row_few(ks: &[u8], px: &[u8], from: usize, w: usize, q: &mut [u8; 2048])
     }
 }
 
-// The steps of a row: up to eight levels are compared with, of more the table is asked.
+// The steps of a row: by comparing where there are at most eight levels, else by the table.
 fn row_of(ks: &[u8], t: &[u8; 256], px: &[u8], from: usize, w: usize, q: &mut [u8; 2048])
     requires { ⌜ (now t ≡ stepTable (now ks)) × Room (now px) from w (now q) ⌝ }
     ensures { λ r. ⌜ Row (now (t .entry)) (now (px .entry)) from w (now (q .exit)) ⌝ }
@@ -118,10 +118,10 @@ fn row_of(ks: &[u8], t: &[u8; 256], px: &[u8], from: usize, w: usize, q: &mut [u
     row_steps(t, px, from, w, q);
 }
 
-// How far the first `end` elements of p are from those of q, taken s places on.
+// Stores in d how far the first `end` elements of p are from those of q, taken s places on.
 fn gap_row(p: &[u8; 2048], q: &[u8; 2048], s: usize, end: usize, d: &mut [u8; 2048])
     requires { ⌜ (s ≤ 1) × (end + s ≤ 2048) × (length (now d) ≡ 2048) ⌝ }
-    ensures { λ r. ⌜ Gaps (now (p .entry)) (now (q .entry)) s end (now (d .exit)) ⌝ }
+    ensures { λ r. ⌜ Distances (now (p .entry)) (now (q .entry)) s end (now (d .exit)) ⌝ }
 {
     let mut x: usize = 0;
     while x < end {
@@ -130,7 +130,7 @@ fn gap_row(p: &[u8; 2048], q: &[u8; 2048], s: usize, end: usize, d: &mut [u8; 20
     }
 }
 
-// A byte as a wider number.
+// A byte as a wider number; the bound in its contract is what the sums need.
 fn wide(v: u8) -> u16
     ensures { λ r. ⌜ (r ≡ v) × (r ≤ 255) ⌝ }
 {
@@ -165,7 +165,7 @@ fn long_sum(d: &[u8; 2048], end: usize) -> usize
     n + short_sum(d, a, end) as usize
 }
 
-// The distances at a row's places but its last, those along the row and those to the row below one after the other.
+// The sum of the distances at a row's places but its last: first those along the row, then those to the row below.
 fn row_sum(p: &[u8; 2048], q: &[u8; 2048], w: usize) -> usize
     requires { ⌜ (1 ≤ w) × (w ≤ 2048) ⌝ }
     ensures { λ r. ⌜ (r ≡ sum (gaps (now (p .entry)) (now (q .entry))) (w - 1)) × (r ≤ 510 * w) ⌝ }

@@ -2,27 +2,25 @@
 -- Definitions: `Listing` the loop's invariant before level number j.
 -- Main laws: `eight-fits` the picture's codes and levels fit a word; `listed-take`, `listed-room` the words of the first levels; `all-begin`, `level-ready`, `all-go`, `all-end` the loop's moves.
 use mathlib.Core.Path.{_≡_, refl, sym, ap, _∙_}
-use mathlib.Core.Bool.{true}
 use mathlib.Core.List.{List, [], _∷_, _++_}
-use Prim.Native.Nat.{ℕ, zero, suc, _+_, _*_, _≤_, _<_}
+use Prim.Native.Nat.{ℕ, suc, _+_, _≤_, _<_}
 use native.Mathlib.Nat.{mul-le-mul}
 use native.Mathlib.Numerals.{add-one}
 use native.Mathlib.Omega.{arith}
 use lib.ListN.{length, take, drop, getD, length-append, take-append-drop}
 use lib.Seq.{take-suc, take-all}
-use Rattle.tally.specs.Tally.{total, tally}
+use Rattle.tally.specs.Tally.{total}
 use Rattle.tally.proofs.Count.{count-at}
 use Rattle.tally.proofs.Sum.{total-append}
-use Rattle.matte.specs.Layout.{Layout, eight}
-use Rattle.matte.specs.Picture.{Picture, size, levelsFit}
-use Rattle.edgel.specs.Word.{flagged}
+use Rattle.matte.specs.Layout.{eight}
+use Rattle.matte.specs.Picture.{Picture}
 use Rattle.outline.specs.Line.{lines}
 use Rattle.outline.specs.List.{levelWords, listed}
 use Rattle.outline.proofs.Levels.{level-below, levels-ascend}
 use Rattle.outline.proofs.Listed.{Fits, listed-append, listed-more, listed-flags}
 use Rattle.trace.specs.declared.scan.Written.{Written}
 use Rattle.refuse.specs.Shape.{Ground}
-use Rattle.trace.specs.Trace.{upper, Worn, pasted}
+use Rattle.trace.specs.Trace.{upper, pasted}
 use Rattle.trace.specs.Level.{LevelReady, LevelDone, AllReady, AllDone}
 use Rattle.count.proofs.Flat.{border-of}
 use Rattle.trace.proofs.Scanning.{paste-on}

@@ -5,18 +5,18 @@
 use mathlib.Core.Path.{_≡_, refl, sym, ap, _∙_}
 use mathlib.Core.Bool.{Bool, true, false, not, _&&_, cond}
 use mathlib.Core.List.{List}
-use mathlib.Core.Logic.{_⊎_, ⊎-elim, inl, inr}
+use mathlib.Core.Logic.{_⊎_, ⊎-elim}
 use Prim.Native.Nat.{ℕ, _+_, _-_, _*_, _/_, _%_, _≤_, _<_, min, max}
 use native.Mathlib.Numerals.{add-one}
 use native.Mathlib.Omega.{arith}
 use lib.Dec.{eqb, ltb, leb}
 use lib.ListN.{length, getD, set}
 use lib.Seq.{getD-set-same, getD-set-other}
-use borrow.Author.Tests.{eqb-true, eqb-false, leb-true, leb-false, ltb-true, ltb-false, lt-ltb, le-ltb, le-leb, ne-eqb, not-true}
+use borrow.Author.Tests.{eqb-true, eqb-false, leb-false, ltb-true, ltb-false, lt-ltb, le-ltb, ne-eqb, not-true}
 use Rattle.tally.specs.Tally.{one, differ, every, firstFrom}
-use Rattle.tally.proofs.Test.{by-test, no, and-1, and-2, both, differ-self}
+use Rattle.tally.proofs.Test.{by-test, no, both, differ-self}
 use Rattle.tally.proofs.First.{from-ge, from-le, from-before, from-passes, from-is}
-use Rattle.tally.proofs.Every.{every-none, every-more, every-at}
+use Rattle.tally.proofs.Every.{every-more, every-at}
 use Rattle.trace.specs.Trace.{fresh}
 use Rattle.trace.specs.Search.{Lows, Highs, Blocks, liveAt, FirstIn}
 

@@ -1,15 +1,15 @@
 -- One level: the loop that finds each lead and follows its line. Assumes nothing.
--- Definitions: `At` what holds at a place before the next lead is looked for; `Scanning` the loop's invariant, where the place leads or is the last.
+-- Definitions: `At` what holds at a place before the next lead is looked for; `Scanning` the loop's invariant, where the place leads or the last row is reached; `Done` what the loop leaves.
 -- Main laws: `words-grow` words only get more; `mark-all-low` marks stay low; `at-begin`, `to-lead`, `at-line`, `line-room`, `at-end` the loop's moves; `none-left` no line begins on the last row.
 use mathlib.Core.Path.{_≡_, refl, sym, ap, _∙_}
-use mathlib.Core.Bool.{Bool, true, false, cond}
+use mathlib.Core.Bool.{true, false}
 use mathlib.Core.List.{List, [], _∷_, _++_, append-nil}
-use Prim.Native.Nat.{ℕ, zero, suc, _+_, _-_, _*_, _/_, _%_, _≤_, _<_}
+use Prim.Native.Nat.{ℕ, zero, suc, _+_, _-_, _*_, _≤_, _<_}
 use native.Mathlib.Omega.{arith}
 use lib.Dec.{eqb, ltb}
-use lib.ListN.{length, take, drop, getD, set, length-append, take-append-drop}
+use lib.ListN.{length, take, drop, getD, length-append, take-append-drop}
 use lib.Seq.{getD-set-same, getD-set-other, set-out}
-use borrow.Author.Tests.{eqb-true, eqb-false, ne-eqb, ltb-true, ltb-false}
+use borrow.Author.Tests.{eqb-true, eqb-false, ltb-true, ltb-false}
 use Rattle.tally.specs.Tally.{count, firstFrom}
 use Rattle.tally.proofs.Test.{by-test, no}
 use Rattle.tally.proofs.First.{from-ge, from-le, from-before, from-passes}
@@ -19,7 +19,6 @@ use Rattle.edgel.specs.Edgel.{horizontal, first}
 use Rattle.outline.specs.Line.{cutAt, line, isLead, lines}
 use Rattle.outline.specs.List.{encode, levelWords}
 use Rattle.outline.proofs.Border.{Border}
-use Rattle.outline.proofs.Paper.{closedAt}
 use Rattle.outline.proofs.Bytes.{marked, mark, markAll, mark-all-length, mark-past}
 use Rattle.outline.proofs.Places.{Scanned, marks-begin, place-line, line-cut, lead-cut}
 use Rattle.outline.proofs.Growing.{linesTo, wordsTo, lines-none, lines-one, lines-skip, lines-whole, words-none, words-line, words-skip, words-whole}
@@ -27,8 +26,7 @@ use Rattle.outline.proofs.Words.{encode-length}
 use Rattle.trace.specs.declared.scan.Written.{Written}
 use Rattle.refuse.specs.Shape.{Ground}
 use Rattle.trace.specs.Trace.{upper, Worn, pasted, fresh}
-use Rattle.count.proofs.Flat.{border-of}
-use Rattle.count.proofs.Flat.{cut-above}
+use Rattle.count.proofs.Flat.{border-of, cut-above}
 use Rattle.trace.proofs.Scanning.{own, own-not, own-self, paste-on, fresh-lead, over}
 
 -- ---- marks
@@ -119,7 +117,7 @@ module _ (P : Picture) (G : Ground P) (k : ℕ) (L : Layout) where
           worn = record { long = refl; low = λ i h. omega (arith, q i h); rest = refl };
         }
 
-    -- over the places that are not fresh, to the next lead or the last place
+    -- over the places that are not fresh, to the next lead or the last row
     pub to-lead : (i r : ℕ) (s : Written) (work words : List ℕ) → At i s work words → r ≡ firstFrom (fresh (P .px) work k) i (upper P - i) → Scanning r s work words
     to-lead i r s work words A e =
         let F = fresh (P .px) work k in

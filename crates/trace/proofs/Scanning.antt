@@ -3,31 +3,26 @@
 -- Main laws: `length-pasted`, `paste-on` pasting behind what was pasted; `own-self`, `own-not`; `fresh-lead` a fresh place leads, `stale` one that
 --   is not fresh does not; `over` from a place over those that are not fresh.
 use mathlib.Core.Path.{_≡_, refl, sym, ap, _∙_}
-use mathlib.Core.Bool.{Bool, true, false, not, _&&_}
-use mathlib.Core.List.{List, [], _∷_, _++_, append-assoc}
-use Prim.Native.Nat.{ℕ, zero, suc, _+_, _-_, _*_, _/_, _%_, _≤_, _<_}
-use native.Mathlib.Nat.{mod-lt, div-add-mod'}
+use mathlib.Core.Bool.{Bool, true, false, not}
+use mathlib.Core.List.{List, _++_, append-assoc}
+use Prim.Native.Nat.{ℕ, zero, suc, _+_, _*_, _/_, _≤_, _<_}
 use native.Mathlib.Omega.{arith}
-use lib.Dec.{eqb, ltb}
-use lib.Arith.{digits-mod}
+use lib.Dec.{eqb}
 use lib.ListN.{length, take, drop, getD, length-append}
 use lib.Seq.{take-at, drop-append-add, length-take-le}
-use borrow.Author.Tests.{eqb-true, eqb-false, eq-eqb, ne-eqb, ltb-true, ltb-false, lt-ltb, le-ltb, not-true, not-false}
-use Rattle.tally.specs.Tally.{differ, firstFrom}
-use Rattle.tally.proofs.Test.{by-test, no, and-1, and-2, both, differ-self}
-use Rattle.tally.proofs.First.{from-ge, from-le, from-before, from-passes}
+use borrow.Author.Tests.{eq-eqb, ne-eqb}
+use Rattle.tally.specs.Tally.{differ}
+use Rattle.tally.proofs.Test.{by-test, no, and-1, and-2, both}
 use Rattle.matte.specs.Layout.{Layout}
-use Rattle.matte.specs.Picture.{Picture, size, at, high}
+use Rattle.matte.specs.Picture.{Picture, size, high}
 use Rattle.edgel.specs.Edgel.{first}
-use Rattle.outline.specs.Line.{cutAt, line, isLead, lines}
-use Rattle.outline.specs.List.{encode, levelWords}
+use Rattle.outline.specs.Line.{cutAt, isLead}
 use Rattle.outline.proofs.Border.{Border}
-use Rattle.outline.proofs.Codes.{cut-flat}
-use Rattle.outline.proofs.Bytes.{marked, markAll, mark-all-length, mark-past}
-use Rattle.outline.proofs.Places.{Scanned, marks-begin, place-tell, place-skip, place-line, line-low, lead-cut, not-lead}
-use Rattle.outline.proofs.Growing.{linesTo, wordsTo, lines-none, lines-one, lines-skip, lines-whole, words-none, words-line, words-skip, words-whole}
+use Rattle.outline.proofs.Bytes.{marked}
+use Rattle.outline.proofs.Places.{Scanned, place-tell, place-skip, lead-cut}
+use Rattle.outline.proofs.Growing.{linesTo, wordsTo, lines-skip, words-skip}
 use Rattle.refuse.specs.Shape.{Ground}
-use Rattle.trace.specs.Trace.{Worn, pasted, fresh}
+use Rattle.trace.specs.Trace.{pasted, fresh}
 use Rattle.count.proofs.Flat.{border-of, crossed-cut, cut-crossed}
 
 -- ---- pasting

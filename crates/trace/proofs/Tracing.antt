@@ -4,34 +4,31 @@
 --   lead, goes on while the next crossing is not the lead, has the whole line when it is, and never runs out.
 use mathlib.Core.Path.{_≡_, refl, sym, ap, _∙_}
 use mathlib.Core.Bool.{Bool, true, false}
-use mathlib.Core.List.{List, [], _∷_, _++_}
+use mathlib.Core.List.{List, _++_}
 use mathlib.Core.Logic.{_≢_}
-use Prim.Native.Nat.{ℕ, zero, suc, _+_, _-_, _*_, _/_, _%_, _≤_, _<_}
+use Prim.Native.Nat.{ℕ, suc, _+_, _*_, _%_, _≤_, _<_}
 use native.Mathlib.Nat.{add-mod-right, mul-le-mul}
 use native.Mathlib.Numerals.{add-one}
 use native.Mathlib.Omega.{arith}
-use lib.ListN.{length, take, drop, getD, set, length-set}
-use lib.Seq.{take-length, take-all, paste, paste-zero, paste-suc}
-use Rattle.orbit.specs.Orbit.{orbit}
+use lib.ListN.{length, take, drop, getD, set}
+use lib.Seq.{take-length, paste, paste-zero, paste-suc}
 use Rattle.orbit.proofs.Orbit.{Closed}
-use Rattle.orbit.proofs.Walk.{Walk, walk-begin, walk-go, walk-stop, walk-ok, walk-room, walk-take}
+use Rattle.orbit.proofs.Walk.{Walk, walk-begin, walk-go, walk-stop, walk-ok, walk-room}
 use Rattle.matte.specs.Layout.{Layout}
 use Rattle.matte.specs.Picture.{Picture, size, high}
 use Rattle.edgel.specs.declared.Heading.{Heading}
 use Rattle.edgel.specs.declared.Heading.the-variants.{South, East, North, West}
 use Rattle.edgel.specs.Edgel.{first, headingAt}
 use Rattle.edgel.specs.Word.{word}
-use Rattle.refuse.specs.Shape.{Sides}
 use Rattle.cell.specs.Turn.{out, into, leave, next}
 use Rattle.cell.proofs.Five.{back}
 use Rattle.step.specs.declared.State.{State}
 use Rattle.step.specs.Step.{codeAt, stateAt, after, entry, Ready}
-use Rattle.step.proofs.Next.{state-code, after-next, after-state, ready-in}
+use Rattle.step.proofs.Next.{state-code, after-state, ready-in}
 use Rattle.outline.specs.Line.{cutAt, line}
 use Rattle.outline.specs.List.{encode}
-use Rattle.outline.proofs.Border.{Border, border-fits}
 use Rattle.outline.proofs.Codes.{into-out, right-in}
-use Rattle.outline.proofs.Entered.{Entered, heads, goes-heading}
+use Rattle.outline.proofs.Entered.{heads, goes-heading}
 use Rattle.outline.proofs.Paper.{bit, leave-is, enteredAt, next-is, closedAt}
 use Rattle.outline.proofs.Words.{encode-length, encode-plain}
 use Rattle.outline.proofs.Bytes.{mark, markAll, mark-take}
@@ -109,9 +106,6 @@ module _ (P : Picture) (G : Ground P) (k : ℕ) where
 
       pub set-off : Ready (P .px) (P .w) s
       set-off = rw (T .state) (ready (T .c) here)
-
-      pub place-is : s .place < size P
-      place-is = rw (T .state) (place-in (T .c) here)
 
       pub place-up : s .place < upper P
       place-up = rw (T .state) (omega (arith, cut-above P G k (T .c) here))

@@ -1,6 +1,6 @@
--- Work bytes set to zero from the front, and those from some place on. Assumes nothing.
--- Main laws: `cleared-at` each is 0; `cleared-length`, `cleared-rest` the length and the rest are as they were; `part-length`, `part-at`, `part-back` the bytes from a place on, and what stands behind where they were changed.
-use mathlib.Core.Path.{_≡_, refl, sym, ap, _∙_}
+-- Work bytes set to zero from the front, and the part of them that begins some bytes on. Assumes nothing.
+-- Main laws: `cleared-at` each is 0; `cleared-length`, `cleared-rest` the length and the rest are as they were; `part-length`, `part-at` that part's length and bytes; `part-back` bytes past the changed ones are as they were.
+use mathlib.Core.Path.{_≡_, sym, ap, _∙_}
 use mathlib.Core.List.{List, _++_}
 use Prim.Native.Nat.{ℕ, _+_, _-_, _≤_, _<_}
 use native.Mathlib.Omega.{arith}

@@ -1,22 +1,24 @@
-// The least and the greatest sample of each block of 64, and of the sample after it.
+// Bounds of the samples of each block of 64 and of the one after it.
 ghost use mathlib.Core.Path.{_≡_};
 ghost use Prim.Native.Nat.{ℕ, _+_, _*_, _≤_, _<_, min, max};
 ghost use lib.ListN.{length, getD};
 ghost use Rattle.trace.specs.Search.{Lows, Highs};
 
+// The lesser of two bytes.
 pub fn lesser(a: u8, b: u8) -> u8
     ensures { λ r. ⌜ r ≡ min a b ⌝ }
 {
     if a < b { a } else { b }
 }
 
+// The greater of two bytes.
 pub fn greater(a: u8, b: u8) -> u8
     ensures { λ r. ⌜ r ≡ max a b ⌝ }
 {
     if a < b { b } else { a }
 }
 
-// The least of the 65 samples from a on.
+// A lower bound of the 65 samples from a on.
 fn low64(px: &[u8], a: usize) -> u8
     requires { ⌜ (a + 64 < length (now px)) × (length (now px) ≤ 4194304) ⌝ }
     ensures { λ r. ⌜ ((i : ℕ) → i ≤ 64 → r ≤ getD (now (px .entry)) (a + i) 0) ⌝ }
@@ -30,7 +32,7 @@ fn low64(px: &[u8], a: usize) -> u8
     m
 }
 
-// The greatest of the 65 samples from a on.
+// An upper bound of the 65 samples from a on.
 fn high64(px: &[u8], a: usize) -> u8
     requires { ⌜ (a + 64 < length (now px)) × (length (now px) ≤ 4194304) ⌝ }
     ensures { λ r. ⌜ ((i : ℕ) → i ≤ 64 → getD (now (px .entry)) (a + i) 0 ≤ r) ⌝ }
@@ -71,7 +73,7 @@ fn highs(px: &[u8], hi: &mut [u8; 65536], a: usize, e: usize)
 // Where the piece of at most 256 blocks from a on ends.
 fn piece_end(a: usize, blocks: usize) -> usize
     requires { ⌜ (a < blocks) × (blocks ≤ 65536) ⌝ }
-    ensures { λ r. ⌜ (a < r) × (r ≤ blocks) ⌝ }
+    ensures { λ r. ⌜ (a < r) × (r ≤ blocks) × (r ≤ a + 256) ⌝ }
 {
     if a + 256 < blocks {
         return a + 256;

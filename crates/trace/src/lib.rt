@@ -5,6 +5,8 @@ mod scan;
 mod search;
 
 use count::count_words;
+pub use line::at_lead;
+pub use line::lead_state;
 use matte::Answer;
 use matte::Verdict;
 use refuse::area;
@@ -13,8 +15,8 @@ use refuse::levels_fit;
 use refuse::shape_number;
 use scan::all_levels;
 ghost use mathlib.Core.Path.{_≡_};
-ghost use mathlib.Core.List.{List, _++_};
-ghost use Prim.Native.Nat.{ℕ, _+_, _*_, _≤_, _<_};
+ghost use mathlib.Core.List.{_++_};
+ghost use Prim.Native.Nat.{_≤_, _<_};
 ghost use lib.ListN.{length, drop, replicate};
 ghost use Rattle.matte.specs.Layout.{eight};
 ghost use Rattle.matte.specs.Picture.{picture};
@@ -81,7 +83,7 @@ pub fn list_verdict(
     }
 }
 
-// Lists every line of every level into the lent word places, or refuses and changes nothing. A place's mark stands half a row on: with rows of 2048 a sample and its mark would else often be a multiple of 4096 bytes apart, where a processor takes the one for the other and waits.
+// Lists every line of every level into the lent word places, or refuses and changes nothing. Marks begin half a row into the work bytes, for speed.
 pub fn list(
     w: usize,
     h: usize,

@@ -116,7 +116,7 @@ fn heads_west(s: State) -> bool
 }
 
 // The crossing is the horizontal one from the place e.
-fn at_lead(s: State, e: usize) -> bool
+pub fn at_lead(s: State, e: usize) -> bool
     ensures { λ r. ⌜ r ≡ eqb (codeAt s) (2 * e) ⌝ }
 {
     let g = s.heading;
@@ -128,7 +128,7 @@ fn at_lead(s: State, e: usize) -> bool
 }
 
 // The crossing of the horizontal edgel from the place e, by whether that place is high.
-fn lead_state(e: usize, high: bool) -> State
+pub fn lead_state(e: usize, high: bool) -> State
     ensures { λ r. ⌜ ((H : ℕ → Bool) → H e ≡ high → r ≡ stateAt H (2 * e)) ⌝ }
 {
     if high {
@@ -143,7 +143,7 @@ fn lead_state(e: usize, high: bool) -> State
     }
 }
 
-// Follows the line of the lead at the place e: its words go to the places from `from` on, none flagged yet. Returns where they end. Runs to the east and the west have loops of their own, for speed.
+// Follows the line of the lead at the place e: its words go to the places from `from` on, none flagged yet. Returns where they end. Runs to the east and the west have loops of their own, for speed. No crossing starts on the last row, so that row needs no work bytes.
 fn follow(
     px: &[u8],
     w: usize,

@@ -2,18 +2,10 @@
 use crate::bounds::bounds;
 use crate::line::trace_line;
 use crate::search::search;
-ghost use mathlib.Core.Path.{_≡_};
-ghost use mathlib.Core.Bool.{Bool, true, false, not, _&&_};
-ghost use mathlib.Core.List.{List, _++_};
-ghost use Prim.Native.Nat.{ℕ, _+_, _-_, _*_, _≤_, _<_};
-ghost use lib.Dec.{eqb, ltb};
-ghost use lib.ListN.{length, getD, take, drop};
-ghost use Rattle.tally.specs.Tally.{differ, firstFrom, tally};
-ghost use Rattle.matte.specs.Layout.{eight};
-ghost use Rattle.matte.specs.Picture.{picture, levelsFit};
-ghost use Rattle.edgel.specs.Word.{flagged};
+ghost use Prim.Native.Nat.{_+_, _-_, _*_, _≤_, _<_};
+ghost use lib.ListN.{length};
+ghost use Rattle.matte.specs.Picture.{picture};
 ghost use Rattle.outline.specs.Line.{lines};
-ghost use Rattle.outline.specs.List.{levelWords, listed};
 ghost use Rattle.trace.specs.Search.{Blocks};
 ghost use Rattle.trace.specs.Level.{LevelReady, LevelDone, AllReady, AllDone};
 

@@ -3,11 +3,10 @@ use crate::bounds::greater;
 use crate::bounds::lesser;
 use count::one_if;
 ghost use mathlib.Core.Path.{_≡_};
-ghost use mathlib.Core.Bool.{Bool, true, false, not, _&&_, cond};
-ghost use mathlib.Core.List.{List};
-ghost use Prim.Native.Nat.{ℕ, _+_, _-_, _*_, _/_, _≤_, _<_, min, max};
-ghost use lib.Dec.{eqb, ltb, leb};
-ghost use lib.ListN.{length, getD};
+ghost use mathlib.Core.Bool.{not, _&&_, cond};
+ghost use Prim.Native.Nat.{_+_, _-_, _*_, _/_, _≤_, _<_};
+ghost use lib.Dec.{eqb, ltb};
+ghost use lib.ListN.{length};
 ghost use Rattle.tally.specs.Tally.{differ, every, firstFrom};
 ghost use Rattle.trace.specs.Trace.{fresh};
 ghost use Rattle.trace.specs.Search.{Blocks, liveAt, FirstIn};
@@ -19,6 +18,7 @@ fn is_fresh(a: u8, b: u8, m: u8, k: u8, mark: u8) -> bool
     ((k < a) != (k < b)) & (m != mark)
 }
 
+// The offset where found, else 64.
 fn or_top(found: bool, i: u8) -> u8
     ensures { λ r. ⌜ r ≡ cond found i 64 ⌝ }
 {
@@ -148,7 +148,7 @@ fn next_live(lo: &[u8; 65536], hi: &[u8; 65536], b: usize, blocks: usize, k: u8)
     scan_live(lo, hi, c, blocks, k)
 }
 
-// The first fresh place from `from` up to `end`, or `end`, one by one.
+// The first fresh place from `from` on and before `end`, or `end`, one by one.
 fn tail(px: &[u8], work: &[u8], k: u8, from: usize, end: usize) -> usize
     requires { ⌜ (from ≤ end) × (end < length (now px)) × (end ≤ length (now work)) × (k < 255) ⌝ }
     ensures { λ r. ⌜ r ≡ firstFrom (fresh (now (px .entry)) (now (work .entry)) k) from (end - from) ⌝ }

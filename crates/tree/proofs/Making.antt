@@ -1,9 +1,8 @@
 -- The steps of a tree call that is not refused, one after the other, over the lent memory as lists. Assumes nothing.
--- Main laws: `work-wide` the work bytes hold the samples' number; `collect-ready`, `notes-ready`, `walk-ready`, `strip-ready` what each step finds; `made` what the last one leaves.
+-- Main laws: `work-wide` there are at least as many work bytes as samples; `collect-ready`, `notes-ready`, `walk-ready`, `strip-ready` what each step finds; `made` what the last one leaves.
 use mathlib.Core.Path.{_≡_, refl, sym, ap, subst, _∙_}
-use mathlib.Core.Bool.{Bool, true, false}
-use mathlib.Core.List.{List, [], _∷_, _++_}
-use Prim.Native.Nat.{ℕ, zero, suc, _+_, _-_, _*_, _/_, _≤_, _<_}
+use mathlib.Core.List.{List, _++_}
+use Prim.Native.Nat.{ℕ, _+_, _-_, _≤_, _<_}
 use native.Mathlib.Nat.{zero-add}
 use native.Mathlib.Omega.{arith}
 use lib.Dec.{leb}
@@ -14,7 +13,7 @@ use Rattle.tally.proofs.Build.{build-length, build-at, build-same}
 use Rattle.matte.specs.declared.Answer.{Answer}
 use Rattle.matte.specs.declared.Verdict.{Verdict}
 use Rattle.matte.specs.Layout.{eight}
-use Rattle.matte.specs.Picture.{Picture, size, levelsFit}
+use Rattle.matte.specs.Picture.{Picture, size}
 use Rattle.matte.proofs.Rows.{done-answer, done-after}
 use Rattle.edgel.specs.Word.{flagged}
 use Rattle.outline.specs.List.{listed, listVerdict, listAnswer, listWork, listWords}
@@ -26,8 +25,7 @@ use Rattle.enclosure.specs.Call.{heads, half}
 use Rattle.enclosure.proofs.Lines.{Setting}
 use Rattle.enclosure.proofs.Numbers.{count-flags, lines-within}
 use Rattle.enclosure.proofs.Running.{heads-words}
-use Rattle.enclosure.proofs.Notes.{Noted}
-use Rattle.tree.specs.Note.{leadsOf, noteFor, NotesReady}
+use Rattle.tree.specs.Note.{leadsOf, NotesReady}
 use Rattle.tree.specs.Value.{valueFor, plain, WalkReady}
 use Rattle.tree.specs.Made.{TreeMade}
 use Rattle.tree.proofs.Ranked.{setting-of}

@@ -1,23 +1,24 @@
 -- Running sums of the steps, and the ranks that they give. Assumes nothing.
--- Main laws: `gaps-none`, `gaps-more` the running sum at the start and one place on; `tally-more`, `tally-none` how many of the first j pass; `running-none`, `running-more`, `running-starts` the sums at
+-- Definitions: `Running` the first b sums stand in the work bytes, and the bytes past the samples' number are as they were.
+-- Main laws: `gaps-none`, `gaps-more` the running sum at the start and one place on; `table-of`, `rising` the table of steps, which does not fall; `running-none`, `running-more`, `running-starts` the sums at
 --   every 8th place, one after the other.
 use mathlib.Core.Path.{_≡_, refl, sym, ap, _∙_}
 use mathlib.Core.Bool.{Bool, true, false, not, Bool·beq}
 use mathlib.Core.List.{List, [], _∷_, _++_}
-use mathlib.Core.Logic.{_≢_}
-use Prim.Native.Nat.{ℕ, zero, suc, _+_, _-_, _*_, _≤_, _<_}
-use native.Mathlib.Numerals.{add-one}
+use Prim.Native.Nat.{ℕ, _+_, _-_, _*_, _≤_, _<_}
 use native.Mathlib.Omega.{arith}
 use lib.Dec.{eqb, ltb}
-use lib.ListN.{length, take, drop, getD, set, length-append, length-drop}
-use lib.Seq.{take-suc, getD-set-same, getD-set-other, length-take-le, drop-cons, drop-at, drop-drop}
+use lib.ListN.{length, take, drop, getD, length-append, length-drop}
+use lib.Seq.{length-take-le, drop-cons, drop-at, drop-drop}
 use borrow.Author.Tests.{eqb-true, eqb-false, lt-ltb, le-ltb, ltb-true}
-use Rattle.tally.specs.Tally.{one, differ, sum, tally}
+use Rattle.tally.specs.Tally.{differ, sum, tally}
 use Rattle.tally.proofs.Test.{by-test}
 use Rattle.tally.proofs.Sum.{sum-next}
-use Rattle.tally.proofs.Count.{tally-append, tally-le}
+use Rattle.tally.proofs.Count.{tally-le}
 use Rattle.block.specs.Block.{le4, num4}
 use Rattle.block.proofs.Bytes.{num4-le4, num4-front, num4-take, num4-after}
+use Rattle.count.specs.Steps.{stepTable}
+use Rattle.count.proofs.Steps.{table-at}
 use Rattle.tree.specs.Note.{Table, Rising, gapAt, gaps, Starts, rankAt}
 
 pub gaps-none : (st px : List ℕ) → gaps st px 0 ≡ 0
@@ -28,23 +29,11 @@ pub gaps-more : (st px : List ℕ) (i : ℕ) → gaps st px (i + 1) ≡ gaps st 
 unfolding gaps
 gaps-more st px i = sum-next (gapAt st px) i
 
-pub tally-none : (p : ℕ → Bool) (l : List ℕ) → tally p (take 0 l) ≡ 0
-unfolding tally
-tally-none p l = refl
+-- ---- the table
+pub table-of : (ks st : List ℕ) → st ≡ stepTable ks → Table ks st
+table-of ks st e = record { tells = λ v h. ap (λ (l : List ℕ). getD l v 0) e ∙ table-at ks v h }
 
-pub tally-more : (p : ℕ → Bool) (l : List ℕ) (j : ℕ) → j < length l → tally p (take (j + 1) l) ≡ tally p (take j l) + one (p (getD l j 0))
-unfolding tally
-tally-more p l j h =
-    ap (λ (z : ℕ). tally p (take z l)) (add-one j) ∙ ap (tally p) (take-suc l j 0 h) ∙ tally-append p (take j l) (getD l j 0 ∷ []) ∙ omega arith
-
--- the table grows by one
-pub grown : (f : ℕ → ℕ) (t : List ℕ) (b v : ℕ) → b < length t → v ≡ f b → ((j : ℕ) → j < b → getD t j 0 ≡ f j) → (j : ℕ) → j < b + 1 → getD (set t b v) j 0 ≡ f j
-grown f t b v h e q j l =
-    by-test (eqb j b)
-    (λ x. let s : j ≡ b = eqb-true j b x in ap (λ (z : ℕ). getD (set t b v) z 0) s ∙ getD-set-same t b v 0 h ∙ e ∙ ap f (sym s))
-    (λ x. let n : j ≢ b = eqb-false j b x in getD-set-other t b j v 0 n ∙ q j (omega arith))
-
--- ---- the steps do not fall
+-- the steps do not fall
 steps-le : (ks : List ℕ) (a b : ℕ) → a ≤ b → tally (λ k. ltb k a) ks ≤ tally (λ k. ltb k b) ks
 steps-le ks a b h = tally-le (λ k. ltb k a) (λ k. ltb k b) ks (λ k e. lt-ltb k b (omega (arith, ltb-true k a e)))
 

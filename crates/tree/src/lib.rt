@@ -58,7 +58,7 @@ fn tree_verdict(
     }
 }
 
-// Lists the lines, takes their leads to the tree places, notes all crossings at their ranks in the word places, decides parents and kinds by the ranks, and lists again.
+// Lists the lines, takes their leads to the tree places, notes all crossings at their ranks in the word places, decides parents and kinds by the ranks, and lists again, which puts the words back and clears the work bytes.
 fn make(
     w: usize,
     h: usize,

@@ -1,25 +1,23 @@
 // Notes at the ranks of all horizontal crossings: each tells its line.
 use crate::rank::rank_of;
 use crate::rank::run_starts;
-use crate::rank::step_table;
-use edgel::Heading;
+use count::step_table;
 use step::State;
 use step::advance;
 use step::level;
+use trace::at_lead;
+use trace::lead_state;
 ghost use mathlib.Core.Path.{_≡_};
-ghost use mathlib.Core.Bool.{Bool, true, false};
-ghost use mathlib.Core.List.{List, _++_};
-ghost use Prim.Native.Nat.{ℕ, _+_, _-_, _*_, _/_, _%_, _≤_, _<_};
-ghost use lib.Dec.{eqb, ltb, leb};
-ghost use lib.ListN.{length, getD, set, take, drop};
-ghost use Rattle.tally.specs.Tally.{one, differ, tally, total};
+ghost use mathlib.Core.Bool.{true};
+ghost use Prim.Native.Nat.{_+_, _*_, _/_, _%_, _≤_, _<_};
+ghost use lib.ListN.{length, drop};
+ghost use Rattle.tally.specs.Tally.{one, total};
 ghost use Rattle.matte.specs.Layout.{eight};
-ghost use Rattle.matte.specs.Picture.{picture, high, levelsFit};
-ghost use Rattle.step.specs.Step.{codeAt, stateAt};
+ghost use Rattle.matte.specs.Picture.{picture};
+ghost use Rattle.step.specs.Step.{codeAt};
 ghost use Rattle.edgel.specs.Edgel.{horizontal};
-ghost use Rattle.outline.specs.Line.{cutAt, line};
-ghost use Rattle.refuse.specs.Shape.{Ground};
-ghost use Rattle.enclosure.specs.Tree.{firsts, lineCount};
+ghost use Rattle.outline.specs.Line.{line};
+ghost use Rattle.enclosure.specs.Tree.{lineCount};
 ghost use Rattle.enclosure.proofs.Notes.{Noted};
 ghost use Rattle.enclosure.specs.Call.{heads};
 ghost use Rattle.tree.specs.Note.{Rising, Starts, rankAt, noteOf, noteAt, noted, notedAll, noteFor, LineReady, NotesReady};
@@ -71,34 +69,6 @@ fn put_note(
     }
 }
 
-// The crossing is the horizontal one from the place e.
-fn at_lead(s: State, e: usize) -> bool
-    ensures { λ r. ⌜ r ≡ eqb (codeAt s) (2 * e) ⌝ }
-{
-    let g = s.heading;
-    let i = s.place;
-    if level(g) {
-        return i == e;
-    }
-    false
-}
-
-// The crossing of the horizontal edgel from the place e, by whether that place is high.
-fn lead_state(e: usize, high: bool) -> State
-    ensures { λ r. ⌜ ((H : ℕ → Bool) → H e ≡ high → r ≡ stateAt H (2 * e)) ⌝ }
-{
-    if high {
-        return State {
-            place: e,
-            heading: Heading::North,
-        };
-    }
-    State {
-        place: e,
-        heading: Heading::South,
-    }
-}
-
 // Notes the crossings of line n, of level k, whose lead is at e.
 fn note_line(
     px: &[u8],
@@ -127,7 +97,7 @@ fn note_line(
     }
 }
 
-// Notes the crossings of all n lines, whose leads stand in the tree places. The work bytes hold running sums afterwards.
+// Notes the crossings of all n lines, whose leads stand in the tree places. Running sums are kept in the work bytes, within as many as there are samples; the rest is left.
 pub fn note_all(
     px: &[u8],
     w: usize,
@@ -141,8 +111,7 @@ pub fn note_all(
     requires { ⌜ (NotesReady (picture w h (now px)) (now ks) (now places) n (now words)) × (length (now px) ≤ length (now work)) ⌝ }
     ensures { λ r. ⌜ (Noted eight (picture w h (now (px .entry))) (now (ks .entry)) (noteFor (picture w h (now (px .entry))) (now (ks .entry))) (lineCount eight (picture w h (now (px .entry))) (now (ks .entry))) 0 (now (words .exit))) × (drop (total (heads (picture w h (now (px .entry)))) (now (ks .entry))) (now (words .exit)) ≡ drop (total (heads (picture w h (now (px .entry)))) (now (ks .entry))) (now (words .entry))) × (drop (length (now (px .entry))) (now (work .exit)) ≡ drop (length (now (px .entry))) (now (work .entry))) ⌝ }
 {
-    let mut st = [0u8; 256];
-    step_table(ks, &mut st);
+    let st = step_table(ks);
     run_starts(px, &st, work);
     let mut m: usize = 0;
     while m < n {

@@ -1,17 +1,15 @@
 -- `trace::list` meets its contract: refused, nothing is touched; else the work bytes are cleared before and after all levels are listed. Assumes nothing.
-use mathlib.Core.Path.{_≡_, refl, sym, ap, _∙_}
+use mathlib.Core.Path.{_≡_, sym, ap, _∙_}
 use mathlib.Core.List.{List, _++_}
-use Prim.Native.Nat.{ℕ, _+_, _-_, _*_, _/_, _≤_, _<_}
+use Prim.Native.Nat.{ℕ, _+_, _-_, _*_, _/_, _≤_}
 use native.Mathlib.Omega.{arith}
 use lib.ListN.{length, getD, drop, replicate}
 use borrow.Author.Needs.{needs}
 use borrow.Rule.Slice.PartMut.{putMid, same-len-mid}
 use Rattle.tally.specs.Tally.{tally}
-use Rattle.matte.specs.declared.Answer.{Answer}
 use Rattle.matte.specs.declared.Verdict.{Verdict}
 use Rattle.matte.specs.Layout.{eight}
 use Rattle.matte.specs.Picture.{picture}
-use Rattle.matte.specs.Refusal.{answer}
 use Rattle.matte.proofs.Rows.{done-answer, refused-answer, done-after, refused-after}
 use Rattle.edgel.specs.Word.{flagged}
 use Rattle.outline.specs.List.{listed, listVerdict}

@@ -1,6 +1,5 @@
 -- `tree::make` meets its contract. Assumes nothing.
-use mathlib.Core.Path.{_≡_, refl, sym, ap, _∙_}
-use native.Mathlib.Omega.{arith}
+use mathlib.Core.Path.{_∙_}
 use Rattle.matte.specs.Picture.{picture}
 use Rattle.tree.proofs.Making.{work-wide, collect-ready, notes-ready, walk-ready, strip-ready, made}
 use Rattle.tree.proofs.make.Statement.{statement}

@@ -1,10 +1,9 @@
 -- `count::stepped::by_steps` meets its contract: the sum over the rows passed, and the last row in the buffer. Assumes nothing.
-use mathlib.Core.Path.{_≡_, refl, sym, ap, _∙_}
-use Prim.Native.Nat.{ℕ, _+_, _-_, _*_, _≤_, _<_}
+use mathlib.Core.Path.{_≡_, refl}
+use Prim.Native.Nat.{_+_, _-_}
 use native.Mathlib.Omega.{arith}
 use lib.ListN.{length}
 use Rattle.matte.specs.Picture.{picture}
-use Rattle.count.specs.Steps.{Row}
 use Rattle.count.proofs.Flat.{area-most}
 use Rattle.count.proofs.Counting.{row-fits}
 use Rattle.count.proofs.Rows.{Counted, room-at, begin, below, go, end}

@@ -1,6 +1,6 @@
 -- `count::stepped::row_steps` meets its contract: the samples passed have their steps in the buffer. Assumes nothing.
 use mathlib.Core.Path.{refl}
-use Prim.Native.Nat.{_+_, _-_, _≤_, _<_}
+use Prim.Native.Nat.{_+_, _-_, _≤_}
 use native.Mathlib.Omega.{arith}
 use Rattle.count.specs.Steps.{Row}
 use Rattle.count.proofs.Rows.{row-none, row-more, row-whole}

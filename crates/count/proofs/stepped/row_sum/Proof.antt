@@ -1,8 +1,8 @@
 -- `count::stepped::row_sum` meets its contract: the sums of both rows of distances. Assumes nothing.
-use mathlib.Core.Path.{_≡_, refl}
-use Prim.Native.Nat.{ℕ, _+_, _-_, _*_, _≤_, _<_}
+use mathlib.Core.Path.{refl}
+use Prim.Native.Nat.{_-_}
 use native.Mathlib.Omega.{arith}
-use Rattle.count.proofs.Rows.{gaps-both}
+use Rattle.count.proofs.Rows.{distances-both}
 use Rattle.count.proofs.stepped.row_sum.Statement.{statement}
 use Rattle.count.proofs.stepped.row_sum.Tie as tie
 
@@ -28,7 +28,7 @@ returns : tie.Need-returns
 returns c =
     let z = c .before .before .before .before .before .before .before .before in
     let n = c .before .before .before .before .long-sum in (
-      gaps-both (z .args .p .now) (z .args .q .now) _ _ (z .args .w - 1) (n .result) (c .long-sum2 .result) (c .before .before .before .before .before .before .gap-row .ensures) (c .before .before .gap-row2 .ensures) (n .ensures .0) (c .long-sum2 .ensures .0),
+      distances-both (z .args .p .now) (z .args .q .now) _ _ (z .args .w - 1) (n .result) (c .long-sum2 .result) (c .before .before .before .before .before .before .gap-row .ensures) (c .before .before .gap-row2 .ensures) (n .ensures .0) (c .long-sum2 .ensures .0),
       omega (arith, n .ensures .1, c .long-sum2 .ensures .1),
     )
 

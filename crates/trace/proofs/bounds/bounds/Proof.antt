@@ -1,6 +1,6 @@
 -- `trace::bounds::bounds` meets its contract: every block passed has both bounds. Assumes nothing.
 use mathlib.Core.Path.{_≡_, subst}
-use Prim.Native.Nat.{ℕ, _+_, _-_, _*_, _≤_, _<_}
+use Prim.Native.Nat.{ℕ, _-_, _≤_}
 use native.Mathlib.Omega.{arith}
 use lib.ListN.{length}
 use Rattle.trace.specs.Search.{Lows, Highs}

@@ -1,8 +1,8 @@
 -- `trace::scan::all_levels` meets its contract: the loop is that of `All`. Assumes nothing.
-use mathlib.Core.Path.{_≡_, refl, sym, ap, _∙_}
-use Prim.Native.Nat.{ℕ, _+_, _-_, _*_, _/_, _≤_, _<_}
+use mathlib.Core.Path.{_≡_, refl, _∙_}
+use Prim.Native.Nat.{ℕ, _-_}
 use native.Mathlib.Omega.{arith}
-use lib.ListN.{length, getD, length-replicate}
+use lib.ListN.{length, length-replicate}
 use Rattle.matte.specs.Picture.{picture}
 use Rattle.trace.specs.Level.{AllReady}
 use Rattle.trace.specs.Search.{Blocks}

@@ -1,16 +1,12 @@
 -- `trace::scan::level_lines` meets its contract: the loop is that of `Level`. Assumes nothing.
-use mathlib.Core.Path.{_≡_, refl, sym, ap, _∙_}
-use mathlib.Core.Bool.{true, false}
-use mathlib.Core.List.{List, [], _∷_}
+use mathlib.Core.Path.{_≡_, refl, ap, _∙_}
 use Prim.Native.Nat.{ℕ, _+_, _-_, _*_, _≤_, _<_}
 use native.Mathlib.Omega.{arith}
-use lib.ListN.{length, getD}
+use lib.ListN.{length}
 use Rattle.tally.specs.Tally.{firstFrom}
 use Rattle.tally.proofs.First.{from-ge}
 use Rattle.matte.specs.Layout.{eight}
 use Rattle.matte.specs.Picture.{picture}
-use Rattle.outline.specs.Line.{line}
-use Rattle.refuse.specs.Shape.{Ground}
 use Rattle.trace.specs.Trace.{upper, fresh}
 use Rattle.trace.specs.Level.{LevelReady}
 use Rattle.count.proofs.Flat.{area-most}

@@ -1,17 +1,15 @@
 -- `trace::search::search` meets its contract: no place passed was fresh, whether it was looked at or its block was passed over. Assumes nothing.
 use mathlib.Core.Path.{_≡_, refl, sym, ap, _∙_}
-use mathlib.Core.Bool.{Bool, true, false, not}
+use mathlib.Core.Bool.{false}
 use mathlib.Core.Logic.{inl, inr}
 use Prim.Native.Nat.{ℕ, _+_, _-_, _*_, _/_, _%_, _≤_, _<_}
 use native.Mathlib.Omega.{arith}
-use lib.ListN.{length}
 use lib.Dec.{ltb}
 use borrow.Author.Tests.{ltb-true, ltb-false}
-use Rattle.tally.specs.Tally.{firstFrom}
 use Rattle.tally.proofs.Test.{by-test}
 use Rattle.tally.proofs.First.{from-is, from-ge}
 use Rattle.trace.specs.Trace.{fresh}
-use Rattle.trace.specs.Search.{Blocks, liveAt}
+use Rattle.trace.specs.Search.{liveAt}
 use Rattle.trace.proofs.Blocks.{bare-block, bare-next, to-live, all-bare}
 use Rattle.trace.proofs.search.search.Statement.{statement}
 use Rattle.trace.proofs.search.search.Tie as tie

@@ -16,14 +16,10 @@ use Rattle.enclosure.specs.Call.{heads}
 use Rattle.enclosure.proofs.Notes.{Noted, noted-start}
 use Rattle.enclosure.proofs.Value.{lines-few}
 use Rattle.tree.specs.Note.{noteFor, notedAll, LineReady}
+use Rattle.tree.proofs.Sums.{table-of}
 use Rattle.tree.proofs.Ranked.{setting-of, level-of, low, word-ready, word-noted}
 use Rattle.tree.proofs.note.note_all.Statement.{statement}
 use Rattle.tree.proofs.note.note_all.Tie as tie
-use Rattle.tree.proofs.note.note_all.Reads as reads
-use Rattle.tree.proofs.note.note_all.Lts as lts
-use Rattle.tree.proofs.note.note_line.Reads as note-line-reads
-use Rattle.tree.proofs.rank.run_starts.Reads as run-starts-reads
-use Rattle.tree.proofs.rank.step_table.Reads as step-table-reads
 
 abbrev Inv-loop : tie.InvT-loop
 Inv-loop px w h ks places n work words₀ st m₀ words m =
@@ -36,20 +32,20 @@ abbrev μ-loop : tie.MeasureT-loop
 μ-loop px w h ks places n work words₀ st m₀ words m = n - m
 
 step-table-requires : tie.Need-step-table-requires Inv-loop μ-loop
-step-table-requires c κs = (c .before .before .before .before .before .before .pre .0 .levels, refl)
+step-table-requires c κs = c .before .before .before .before .before .pre .0 .levels
 
 run-starts-requires : tie.Need-run-starts-requires Inv-loop μ-loop
-run-starts-requires c κs = let G = c .before .before .before .before .before .before .before .before .before .pre .0 .ground in (four G, area-most G, c .before .before .before .before .before .before .before .before .before .pre .1)
+run-starts-requires c κs = let G = c .before .before .before .before .before .before .before .before .pre .0 .ground in (four G, area-most G, c .before .before .before .before .before .before .before .before .pre .1)
 
 loop-holds : tie.Need-loop-holds Inv-loop μ-loop
 loop-holds c =
-    let a = c .before .before .before .before .before .before .before .before .before .before .before .before .args in
-    let p = c .before .before .before .before .before .before .before .before .before .before .before .before .pre .0 in
+    let a = c .before .before .before .before .before .before .before .before .before .before .before .args in
+    let p = c .before .before .before .before .before .before .before .before .before .before .before .pre .0 in
     (omega arith, refl, noted-start (setting-of (picture (a .w) (a .h) (a .px .now)) (a .ks .now) (p .ground) (p .levels)) (noteFor (picture (a .w) (a .h) (a .px .now)) (a .ks .now)) (a .words .now), refl)
 
 mul-x : tie.Need-mul-x Inv-loop μ-loop
 mul-x c =
-    let z = c .before .before .before .before .before .before .before .before .before .before .before .before .before .before in
+    let z = c .before .before .before .before .before .before .before .before .before .before .before .before .before in
     let a = z .args in
     let l = c .before .loop in
     let S = setting-of (picture (a .w) (a .h) (a .px .now)) (a .ks .now) (z .pre .0 .ground) (z .pre .0 .levels) in
@@ -59,7 +55,7 @@ mul-x c =
 
 shared-slice-read-x : tie.Need-shared-slice-read-x Inv-loop μ-loop
 shared-slice-read-x c =
-    let z = c .before .before .before .before .before .before .before .before .before .before .before .before .before .before .before in
+    let z = c .before .before .before .before .before .before .before .before .before .before .before .before .before .before in
     let a = z .args in
     let l = c .before .before .loop in
     let S = setting-of (picture (a .w) (a .h) (a .px .now)) (a .ks .now) (z .pre .0 .ground) (z .pre .0 .levels) in
@@ -69,19 +65,19 @@ shared-slice-read-x c =
 
 cast-note-line : tie.Need-cast-note-line Inv-loop μ-loop
 cast-note-line c =
-    let z = c .before .before .before .before .before .before .before .before .before .before .before .before .before .before .before .before .before in
+    let z = c .before .before .before .before .before .before .before .before .before .before .before .before .before .before .before .before in
     let a = z .args in
     let l = c .before .before .before .before .loop in
     let S = setting-of (picture (a .w) (a .h) (a .px .now)) (a .ks .now) (z .pre .0 .ground) (z .pre .0 .levels) in
     let t : l .m < a .n = c .before .before .before .loop-test .taken in
     let few = lines-few S in
     let x = getD (a .places .now) (l .m) 0 in
-    let v : x / 8388608 ≡ levelAt eight (picture (a .w) (a .h) (a .px .now)) (a .ks .now) (l .m) = level-of (picture (a .w) (a .h) (a .px .now)) (a .ks .now) (z .pre .0 .ground) (z .pre .0 .levels) _ (c .before .before .before .before .before .before .before .before .before .before .step-table .ensures) (λ i. c .before .before .before .before .before .before .before .before .before .before .before .before .before .before .before .before .shared-slice-known .given i .fits) (l .m) (omega (arith, z .pre .0 .count)) x (z .pre .0 .leads (l .m) t) in
-    omega (arith, low (picture (a .w) (a .h) (a .px .now)) (a .ks .now) (z .pre .0 .ground) (z .pre .0 .levels) _ (c .before .before .before .before .before .before .before .before .before .before .step-table .ensures) (λ i. c .before .before .before .before .before .before .before .before .before .before .before .before .before .before .before .before .shared-slice-known .given i .fits) (l .m) (omega (arith, z .pre .0 .count)))
+    let v : x / 8388608 ≡ levelAt eight (picture (a .w) (a .h) (a .px .now)) (a .ks .now) (l .m) = level-of (picture (a .w) (a .h) (a .px .now)) (a .ks .now) (z .pre .0 .ground) (z .pre .0 .levels) _ (table-of (a .ks .now) _ (c .before .before .before .before .before .before .before .before .before .before .step-table .ensures)) (λ i. c .before .before .before .before .before .before .before .before .before .before .before .before .before .before .before .shared-slice-known .given i .fits) (l .m) (omega (arith, z .pre .0 .count)) x (z .pre .0 .leads (l .m) t) in
+    omega (arith, low (picture (a .w) (a .h) (a .px .now)) (a .ks .now) (z .pre .0 .ground) (z .pre .0 .levels) _ (table-of (a .ks .now) _ (c .before .before .before .before .before .before .before .before .before .before .step-table .ensures)) (λ i. c .before .before .before .before .before .before .before .before .before .before .before .before .before .before .before .shared-slice-known .given i .fits) (l .m) (omega (arith, z .pre .0 .count)))
 
 cast-note-line-2 : tie.Need-cast-note-line-2 Inv-loop μ-loop
 cast-note-line-2 c =
-    let z = c .before .before .before .before .before .before .before .before .before .before .before .before .before .before .before .before .before in
+    let z = c .before .before .before .before .before .before .before .before .before .before .before .before .before .before .before .before in
     let a = z .args in
     let l = c .before .before .before .before .loop in
     let S = setting-of (picture (a .w) (a .h) (a .px .now)) (a .ks .now) (z .pre .0 .ground) (z .pre .0 .levels) in
@@ -95,17 +91,17 @@ cast-note-line-3 c =
 
 note-line-requires : tie.Need-note-line-requires Inv-loop μ-loop
 note-line-requires c κs =
-    let z = c .before .before .before .before .before .before .before .before .before .before .before .before .before .before .before .before .before .before in
+    let z = c .before .before .before .before .before .before .before .before .before .before .before .before .before .before .before .before .before in
     let a = z .args in
     let l = c .before .before .before .before .before .loop in
     let S = setting-of (picture (a .w) (a .h) (a .px .now)) (a .ks .now) (z .pre .0 .ground) (z .pre .0 .levels) in
     let t : l .m < a .n = c .before .before .before .before .loop-test .taken in
     let few = lines-few S in
-    word-ready (picture (a .w) (a .h) (a .px .now)) (a .ks .now) (z .pre .0 .ground) (z .pre .0 .levels) _ (c .before .before .before .before .before .before .before .before .before .before .before .step-table .ensures) (λ i. c .before .before .before .before .before .before .before .before .before .before .before .before .before .before .before .before .before .shared-slice-known .given i .fits) (l .m) (omega (arith, z .pre .0 .count)) (getD (a .places .now) (l .m) 0) _ (l .words) (z .pre .0 .leads (l .m) t) (c .before .before .before .before .before .before .before .before .run-starts .ensures .0) (omega (arith, z .pre .0 .room, l .inv .1))
+    word-ready (picture (a .w) (a .h) (a .px .now)) (a .ks .now) (z .pre .0 .ground) (z .pre .0 .levels) _ (table-of (a .ks .now) _ (c .before .before .before .before .before .before .before .before .before .before .before .step-table .ensures)) (λ i. c .before .before .before .before .before .before .before .before .before .before .before .before .before .before .before .before .shared-slice-known .given i .fits) (l .m) (omega (arith, z .pre .0 .count)) (getD (a .places .now) (l .m) 0) _ (l .words) (z .pre .0 .leads (l .m) t) (c .before .before .before .before .before .before .before .before .run-starts .ensures .0) (omega (arith, z .pre .0 .room, l .inv .1))
 
 add-m : tie.Need-add-m Inv-loop μ-loop
 add-m c =
-    let z = c .before .before .before .before .before .before .before .before .before .before .before .before .before .before .before .before .before .before .before .before .before in
+    let z = c .before .before .before .before .before .before .before .before .before .before .before .before .before .before .before .before .before .before .before .before in
     let a = z .args in
     let l = c .before .before .before .before .before .before .before .before .loop in
     let S = setting-of (picture (a .w) (a .h) (a .px .now)) (a .ks .now) (z .pre .0 .ground) (z .pre .0 .levels) in
@@ -115,7 +111,7 @@ add-m c =
 
 loop-less : tie.Need-loop-less Inv-loop μ-loop
 loop-less c =
-    let z = c .before .before .before .before .before .before .before .before .before .before .before .before .before .before .before .before .before .before .before .before .before in
+    let z = c .before .before .before .before .before .before .before .before .before .before .before .before .before .before .before .before .before .before .before .before in
     let a = z .args in
     let l = c .before .before .before .before .before .before .before .before .loop in
     let S = setting-of (picture (a .w) (a .h) (a .px .now)) (a .ks .now) (z .pre .0 .ground) (z .pre .0 .levels) in
@@ -125,13 +121,13 @@ loop-less c =
 
 loop-again : tie.Need-loop-again Inv-loop μ-loop
 loop-again c =
-    let z = c .before .before .before .before .before .before .before .before .before .before .before .before .before .before .before .before .before .before .before .before .before in
+    let z = c .before .before .before .before .before .before .before .before .before .before .before .before .before .before .before .before .before .before .before .before in
     let a = z .args in
     let l = c .before .before .before .before .before .before .before .before .loop in
     let S = setting-of (picture (a .w) (a .h) (a .px .now)) (a .ks .now) (z .pre .0 .ground) (z .pre .0 .levels) in
     let t : l .m < a .n = c .before .before .before .before .before .before .before .loop-test .taken in
     let few = lines-few S in
-    let R = word-noted (picture (a .w) (a .h) (a .px .now)) (a .ks .now) (z .pre .0 .ground) (z .pre .0 .levels) _ (c .before .before .before .before .before .before .before .before .before .before .before .before .before .before .step-table .ensures) (λ i. c .before .before .before .before .before .before .before .before .before .before .before .before .before .before .before .before .before .before .before .before .shared-slice-known .given i .fits) (l .m) (omega (arith, z .pre .0 .count)) (l .words) (l .inv .2) (omega (arith, z .pre .0 .room, l .inv .1)) (getD (a .places .now) (l .m) 0) _ (z .pre .0 .leads (l .m) t) (c .before .before .note-line .ensures) in
+    let R = word-noted (picture (a .w) (a .h) (a .px .now)) (a .ks .now) (z .pre .0 .ground) (z .pre .0 .levels) _ (table-of (a .ks .now) _ (c .before .before .before .before .before .before .before .before .before .before .before .before .before .before .step-table .ensures)) (λ i. c .before .before .before .before .before .before .before .before .before .before .before .before .before .before .before .before .before .before .before .shared-slice-known .given i .fits) (l .m) (omega (arith, z .pre .0 .count)) (l .words) (l .inv .2) (omega (arith, z .pre .0 .room, l .inv .1)) (getD (a .places .now) (l .m) 0) _ (z .pre .0 .leads (l .m) t) (c .before .before .note-line .ensures) in
     (omega arith, c .before .before .note-line .kept .1 .1 .1 .1 .1 .1 .1 .1 .0 ∙ l .inv .1, R .0, R .1 ∙ l .inv .3)
 
 same-length : tie.Need-same-length Inv-loop μ-loop
@@ -142,7 +138,7 @@ same-length-2 c = c .before .loop .inv .1
 
 returns : tie.Need-returns Inv-loop μ-loop
 returns c =
-    let z = c .before .before .before .before .before .before .before .before .before .before .before .before .before .before in
+    let z = c .before .before .before .before .before .before .before .before .before .before .before .before .before in
     let a = z .args in
     let l = c .before .loop in
     let e : l .m ≡ lineCount eight (picture (a .w) (a .h) (a .px .now)) (a .ks .now) = omega (arith, c .loop-test .left, l .inv .0, z .pre .0 .count) in

@@ -16,8 +16,6 @@ use Rattle.tree.proofs.note.note_line.Tie as tie
 use Rattle.tree.proofs.note.note_line.Reads as reads
 use Rattle.tree.proofs.note.note_line.Lts as lts
 use Rattle.step.proofs.advance.Reads as advance-reads
-use Rattle.tree.proofs.note.at_lead.Reads as at-lead-reads
-use Rattle.tree.proofs.note.lead_state.Reads as lead-state-reads
 use Rattle.tree.proofs.note.put_note.Reads as put-note-reads
 
 abbrev Inv-loop : tie.InvT-loop

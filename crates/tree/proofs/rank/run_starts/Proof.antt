@@ -1,8 +1,7 @@
 -- `tree::rank::run_starts` meets its contract: the sums passed stand in the work bytes. Assumes nothing.
-use mathlib.Core.Path.{_≡_, refl, sym, ap, _∙_}
-use Prim.Native.Nat.{ℕ, _+_, _-_, _*_, _/_, _≤_, _<_}
+use mathlib.Core.Path.{_≡_, sym, ap, _∙_}
+use Prim.Native.Nat.{_+_, _-_, _*_, _≤_}
 use native.Mathlib.Omega.{arith}
-use lib.ListN.{length}
 use Rattle.tree.specs.Note.{gaps}
 use Rattle.tree.proofs.Sums.{gaps-none, Running, running-none, running-more, running-starts}
 use Rattle.tree.proofs.rank.run_starts.Statement.{statement}

@@ -17,19 +17,19 @@ abbrev μ-loop : tie.MeasureT-loop
 loop-holds : tie.Need-loop-holds Inv-loop μ-loop
 loop-holds c = let p = c .before .pre in (p .0, p .3, p .4)
 
-gap-requires : tie.Need-gap-requires Inv-loop μ-loop
-gap-requires c κs =
+gap-at-requires : tie.Need-gap-at-requires Inv-loop μ-loop
+gap-at-requires c κs =
     let z = c .before .before .before in
     (omega (arith, c .loop-test .taken, z .pre .1), z .pre .2)
 
 cast-m : tie.Need-cast-m Inv-loop μ-loop
-cast-m c = omega (arith, c .gap .ensures .1)
+cast-m c = omega (arith, c .gap-at .ensures .1)
 
 add-m : tie.Need-add-m Inv-loop μ-loop
 add-m c =
     let z = c .before .before .before .before in
     let l = c .before .before .loop in
-    omega (arith, l .inv .2, c .gap .ensures .1, c .before .loop-test .taken, z .pre .1, z .pre .2)
+    omega (arith, l .inv .2, c .gap-at .ensures .1, c .before .loop-test .taken, z .pre .1, z .pre .2)
 
 add-i : tie.Need-add-i Inv-loop μ-loop
 add-i c =
@@ -43,7 +43,7 @@ loop-again : tie.Need-loop-again Inv-loop μ-loop
 loop-again c =
     let a = c .before .before .before .before .args in
     let l = c .before .before .loop in
-    let r = c .gap in (
+    let r = c .gap-at in (
       omega (arith, c .before .loop-test .taken),
       ap (λ (z : ℕ). z + r .result) (l .inv .1)
           ∙ ap (λ (z : ℕ). gaps (a .st .now) (a .px .now) (l .i) + z) (r .ensures .0)
@@ -59,4 +59,4 @@ returns c =
     (l .inv .1 ∙ ap (gaps (a .st .now) (a .px .now)) s, omega (arith, l .inv .2))
 
 pub sum-to-spec : {M : Type 1} → statement M
-sum-to-spec = tie.close (tie.spec Inv-loop μ-loop loop-holds gap-requires cast-m add-m add-i loop-less loop-again returns)
+sum-to-spec = tie.close (tie.spec Inv-loop μ-loop loop-holds gap-at-requires cast-m add-m add-i loop-less loop-again returns)

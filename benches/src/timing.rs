@@ -68,7 +68,6 @@ impl Pace {
         let mut seen = [Least::default(); N];
         let (mut spent, mut repeats, mut fell) = (0.0, 0, 0);
         while repeats < self.at_least || spent < self.seconds || (2 * fell > repeats && spent < 3.0 * self.seconds) {
-            repeats += 1;
             for (least, call) in seen.iter_mut().zip(calls) {
                 let took = once(|| run(call));
                 spent += took.process;
@@ -76,6 +75,7 @@ impl Pace {
                     fell = repeats;
                 }
             }
+            repeats += 1;
         }
         seen.map(|least| least.time())
     }

@@ -2,7 +2,7 @@
  *
  * A slice is a pointer and a count of elements. Lent memory must not overlap. A pointer for a count of 0 must still not be null.
  * Every call but loafcanyon_part answers with a number, 0 for done; docs/PROMISES.md says what each call's contract is.
- * Stack: listing takes at most 144 KB, and so does the tree, which lists; painting 528 KB, every other call 8 KB.
+ * Stack: listing takes at most 144 KB, the tree 48 KB, painting 528 KB, every other call 8 KB.
  */
 #ifndef LOAFCANYON_H
 #define LOAFCANYON_H

@@ -36,7 +36,8 @@ pub fn group(run: &mut Run) {
 /// The kilobytes that the header says.
 fn most(call: Call) -> usize {
     match call {
-        Call::List | Call::Tree => 144,
+        Call::List => 144,
+        Call::Tree => 48,
         Call::Paint => 528,
         _ => 8,
     }

@@ -19,6 +19,31 @@ use Rattle.tally.proofs.Parity.{odd-plus, odd-one}
 use Rattle.edgel.specs.Edgel.{across, down, horizontal}
 use Rattle.edgel.specs.Beside.{westOf, northOf, oddWest, oddLines}
 
+-- ---- along a line of codes
+-- a test that picks out the first n values of a function, no two alike: one word's share, and a list's
+module _ (p : ℕ → Bool) (f g : ℕ → ℕ) (n : ℕ) (back : (c : ℕ) → p c ≡ true → (c ≡ f (g c)) × (g c < n)) (on : (i : ℕ) → i < n → p (f i) ≡ true) (once : (i j : ℕ) → f i ≡ f j → i ≡ j) where
+  share : (c : ℕ) → one (p c) ≡ sum (λ i. one (eqb (f i) c)) n
+  share c =
+      by-test (p c)
+      (λ e.
+      let b = back c e in
+      ap one e
+      ∙ sym (sum-on (g c) n (b .1))
+      ∙ sum-same (λ i. one (eqb i (g c))) (λ i. one (eqb (f i) c)) n
+      (λ i h. by-test (eqb i (g c))
+      (λ d. ap one (d ∙ sym (eq-eqb (f i) c (ap f (eqb-true i (g c) d) ∙ sym (b .0)))))
+      (λ d. ap one (d ∙ sym (ne-eqb (f i) c (λ z. eqb-false i (g c) d (once i (g c) (z ∙ b .0))))))))
+      (λ e.
+      ap one e
+      ∙ sym (sum-zero n)
+      ∙ sum-same (λ i. 0) (λ i. one (eqb (f i) c)) n
+      (λ i h. ap one (sym (ne-eqb (f i) c (λ z. no (on i h) (ap p z ∙ e))))))
+
+  tally-along : (l : List ℕ) → tally p l ≡ sum (λ i. count (f i) l) n
+  unfolding tally count
+  tally-along [] = sym (sum-zero n)
+  tally-along (c ∷ l) = rw (share c, tally-along l) (sym (sum-plus (λ i. one (eqb (f i) c)) (λ i. count (f i) l) n))
+
 -- ---- along the row
 west-at : (w x y c : ℕ) → westOf w x y c ≡ true → (c ≡ across w (c / 2 % w) y) × (c / 2 % w < x)
 unfolding westOf
@@ -37,34 +62,9 @@ at-west w x y i a b =
     let g : (2 * (y * w + i)) / 2 ≡ y * w + i = omega arith in
     rw (f, g, digits-div y a, digits-mod y a, eq-eqb y y refl, lt-ltb i x b)
 
--- one word's share, as a sum along the row
-share : (w x y c : ℕ) → x ≤ w → one (westOf w x y c) ≡ sum (λ i. one (eqb (across w i y) c)) x
-share w x y c l =
-    by-test (westOf w x y c)
-    (λ e.
-    let b = west-at w x y c e in
-    let j = c / 2 % w in
-    ap one e
-    ∙ sym (sum-on j x (b .1))
-    ∙ sum-same (λ i. one (eqb i j)) (λ i. one (eqb (across w i y) c)) x
-    (λ i h. by-test (eqb i j)
-    (λ d.
-    let s : i ≡ j = eqb-true i j d in
-    ap one (d ∙ sym (eq-eqb (across w i y) c (ap (λ (z : ℕ). across w z y) s ∙ sym (b .0)))))
-    (λ d.
-    let s : i ≢ j = eqb-false i j d in
-    ap one (d ∙ sym (ne-eqb (across w i y) c (λ z. let u : across w i y ≡ across w j y = z ∙ b .0 in s (omega arith)))))))
-    (λ e.
-    ap one e
-    ∙ sym (sum-zero x)
-    ∙ sum-same (λ i. 0) (λ i. one (eqb (across w i y) c)) x
-    (λ i h. ap one (sym (ne-eqb (across w i y) c (λ z. no (at-west w x y i (omega arith) h) (ap (westOf w x y) z ∙ e))))))
-
 pub tally-west : (w x y : ℕ) → x ≤ w → (l : List ℕ) → tally (westOf w x y) l ≡ sum (λ i. count (across w i y) l) x
-unfolding tally count
-tally-west w x y h [] = sym (sum-zero x)
-tally-west w x y h (c ∷ l) =
-    rw (share w x y c h, tally-west w x y h l) (sym (sum-plus (λ i. one (eqb (across w i y) c)) (λ i. count (across w i y) l) x))
+tally-west w x y h =
+    tally-along (westOf w x y) (λ i. across w i y) (λ c. c / 2 % w) x (west-at w x y) (λ i l. at-west w x y i (omega arith) l) (λ i j e. omega arith)
 
 -- ---- along the column
 north-at : (w x y c : ℕ) → northOf w x y c ≡ true → (c ≡ down w x (c / 2 / w)) × (c / 2 / w < y)
@@ -89,31 +89,9 @@ down-inj w x i j a e =
     let s : i * w + x ≡ j * w + x = omega arith in
     sym (digits-div i a) ∙ ap (λ (z : ℕ). z / w) s ∙ digits-div j a
 
-share-north : (w x y c : ℕ) → x < w → one (northOf w x y c) ≡ sum (λ j. one (eqb (down w x j) c)) y
-share-north w x y c a =
-    by-test (northOf w x y c)
-    (λ e.
-    let b = north-at w x y c e in
-    let i = c / 2 / w in
-    ap one e
-    ∙ sym (sum-on i y (b .1))
-    ∙ sum-same (λ j. one (eqb j i)) (λ j. one (eqb (down w x j) c)) y
-    (λ j h. by-test (eqb j i)
-    (λ d.
-    let s : j ≡ i = eqb-true j i d in
-    ap one (d ∙ sym (eq-eqb (down w x j) c (ap (λ (z : ℕ). down w x z) s ∙ sym (b .0)))))
-    (λ d. ap one (d ∙ sym (ne-eqb (down w x j) c (λ z. eqb-false j i d (down-inj w x j i a (z ∙ b .0))))))))
-    (λ e.
-    ap one e
-    ∙ sym (sum-zero y)
-    ∙ sum-same (λ j. 0) (λ j. one (eqb (down w x j) c)) y
-    (λ j h. ap one (sym (ne-eqb (down w x j) c (λ z. no (at-north w x y j a h) (ap (northOf w x y) z ∙ e))))))
-
 pub tally-north : (w x y : ℕ) → x < w → (l : List ℕ) → tally (northOf w x y) l ≡ sum (λ j. count (down w x j) l) y
-unfolding tally count
-tally-north w x y h [] = sym (sum-zero y)
-tally-north w x y h (c ∷ l) =
-    rw (share-north w x y c h, tally-north w x y h l) (sym (sum-plus (λ j. one (eqb (down w x j) c)) (λ j. count (down w x j) l) y))
+tally-north w x y h =
+    tally-along (northOf w x y) (down w x) (λ c. c / 2 / w) y (north-at w x y) (λ j l. at-north w x y j h l) (λ i j e. down-inj w x i j h e)
 
 -- ---- over all lines
 pub odd-lines : (w : ℕ) (ls : List (List ℕ)) (x y : ℕ) → odd (oddLines w ls x y) ≡ oddWest w (flat ls) x y

@@ -1,11 +1,11 @@
 -- A scan upwards that traces each head which is ok and not yet marked, and marks the heads of its line, lists exactly the orbits of the leads. Assumes nothing.
 -- Definitions: `Marks i m` the loop's invariant: a head that is ok is marked by m exactly if the lead of its line is below i; `scan` the scan, marks as a function.
--- Main laws: `marks-start`, `marks-tell` (not marked = leads), `marks-line` (after a line), `marks-skip` (after any other number), `marks-end` (all are marked);
+-- Main laws: `marks-start`, `marks-tell` (not marked = leads), `marks-line` (after a line), `marks-skip` (after any other number), `marks-past` (those behind are marked);
 --   `scan-pick` from the invariant the scan is the walk over the leads; `scan-listing` the whole scan is the listing.
 use mathlib.Core.Path.{_≡_, refl, sym, ap, _∙_}
 use mathlib.Core.Bool.{Bool, true, false, not, _&&_, _||_}
 use mathlib.Core.List.{List, [], _∷_}
-use Prim.Native.Nat.{ℕ, zero, suc, _≤_}
+use Prim.Native.Nat.{ℕ, zero, suc, _≤_, _<_}
 use native.Mathlib.Omega.{arith}
 use lib.Dec.{ltb}
 use borrow.Author.Tests.{ltb-true, ltb-false, lt-ltb, le-ltb}
@@ -84,8 +84,9 @@ module _ {f : ℕ → ℕ} {ok : ℕ → Bool} {n : ℕ} (K : Closed f ok n) (he
             M .tell d h k ∙ ltb-same (lead K head X d h) i (λ z. no (ap (λ (x : ℕ). leads f ok head n x) (sym z) ∙ lead-leads K head X d h) e);
       }
 
-  pub marks-end : (m : ℕ → Bool) → Marks n m → (d : ℕ) → ok d ≡ true → head d ≡ true → m d ≡ true
-  marks-end m M d h k = M .tell d h k ∙ lt-ltb (lead K head X d h) n (K .bound _ (lead-ok K head X d h))
+  -- a head that is ok and behind the scan is marked
+  pub marks-past : (i : ℕ) (m : ℕ → Bool) → Marks i m → (d : ℕ) → ok d ≡ true → head d ≡ true → d < i → m d ≡ true
+  marks-past i m M d h k l = M .tell d h k ∙ lt-ltb (lead K head X d h) i (omega (arith, lead-le K head X d h d k (on-self K d h)))
 
   -- the scan's test is `leads`
   pub marks-test : (i : ℕ) (m : ℕ → Bool) → Marks i m → (head i && (ok i && not (m i))) ≡ leads f ok head n i

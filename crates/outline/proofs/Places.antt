@@ -1,7 +1,7 @@
 -- The scan by places with its marks in work bytes: what a loop over the places of a picture keeps, at one level. Assumes nothing.
 -- Definitions: `Scanned P B k i m` the places below i have been scanned: a crossed horizontal code is marked by m exactly if the lead of its line is below 2 i.
 -- Main laws: `marks-begin` before the first place; `place-tell` a crossed place leads a line exactly if it is not marked; `place-skip`, `place-flat` past a place that leads none; `place-line` past
---   one whose line has been marked in the bytes; `marks-done` at the end all are marked; `line-cut`, `line-low` the codes of a line are crossed, and name edgels.
+--   one whose line has been marked in the bytes; `place-past` crossed places that were scanned are marked; `line-cut`, `line-low` the codes of a line are crossed, and name edgels.
 use mathlib.Core.Path.{_≡_, refl}
 use mathlib.Core.Bool.{Bool, true, false, not, _&&_}
 use mathlib.Core.List.{List}
@@ -13,7 +13,7 @@ use Rattle.tally.specs.Tally.{count}
 use Rattle.orbit.specs.Orbit.{leads}
 use Rattle.orbit.proofs.On.{on, on-ok}
 use Rattle.orbit.proofs.Partition.{leads-ok}
-use Rattle.orbit.proofs.Scan.{Marks, marks-start, marks-tell, marks-line, marks-skip, marks-end}
+use Rattle.orbit.proofs.Scan.{Marks, marks-start, marks-tell, marks-line, marks-skip, marks-past}
 use Rattle.matte.specs.Picture.{Picture, size}
 use Rattle.edgel.specs.Edgel.{horizontal}
 use Rattle.cell.specs.Turn.{next}
@@ -82,5 +82,5 @@ module _ (P : Picture) (B : Border P) (k : ℕ) where
       (marks-line (closedAt P B k) horizontal (headedAt P B k) (2 * i) (marked t bytes) (marked t (markAll v bytes (line P k (2 * i)))) M e
       (λ d h. mark-all t v y bytes (line P k (2 * i)) d h room))
 
-  pub marks-done : (m : ℕ → Bool) → Scanned (size P) m → (d : ℕ) → cutAt P k d ≡ true → horizontal d ≡ true → m d ≡ true
-  marks-done m M d o h = marks-end (closedAt P B k) horizontal (headedAt P B k) m M d o h
+  pub place-past : (i : ℕ) (m : ℕ → Bool) → Scanned i m → (j : ℕ) → cutAt P k (2 * j) ≡ true → j < i → m (2 * j) ≡ true
+  place-past i m M j o l = marks-past (closedAt P B k) horizontal (headedAt P B k) (2 * i) m M (2 * j) o (flat-even j) (omega arith)

@@ -1,12 +1,11 @@
--- Blocks of 64 places: their bounds, and which of them hold no fresh place. Assumes nothing.
--- Definitions: `Finding` the first fresh place of a block among those looked at.
--- Main laws: `lows-none`, `lows-more`, `highs-none`, `highs-more` the bounds of one block more; `dead-block` a block whose bounds do not enclose the level holds no fresh place; `any-more` one test more of many; `find-begin`,
---   `find-go`, `find-end` the search inside a block; `none-in`, `in-later` a block with no fresh place, and the first one from an offset on; `from-over` the first past numbers that fail; `bare-block`, `bare-dead`, `bare-next`, `to-live` no fresh place up to the next block, over blocks that are not live, or up to the next live one; `all-bare` the search goes on behind all blocks.
-use mathlib.Core.Path.{_≡_, refl, sym, ap, _∙_}
+-- Blocks of 64 places: which of them hold no fresh place, and the first fresh place in them. Assumes nothing.
+-- Definitions: `Finding` the first fresh place of a block among those looked at; `Stale` no place of a run is fresh.
+-- Main laws: `dead-block` a block whose bounds do not enclose the level holds no fresh place; `any-more` one test more of many; `find-begin`, `find-go`, `find-end`, `none-in` the search inside a block; `from-over` the first past numbers that fail;
+--   `stale-on` some places more that are not fresh, `stale-next` those of slots that are not live; `or-found`, `or-none`, `or-skip` the first of a run; `or-first` it is the first of all, `or-bare` or none is fresh yet.
+use mathlib.Core.Path.{_≡_, refl, sym, ap, subst, _∙_}
 use mathlib.Core.Bool.{Bool, true, false, not, _&&_, cond}
 use mathlib.Core.List.{List}
-use mathlib.Core.Logic.{_⊎_, ⊎-elim}
-use Prim.Native.Nat.{ℕ, _+_, _-_, _*_, _/_, _%_, _≤_, _<_, min, max}
+use Prim.Native.Nat.{ℕ, zero, suc, _+_, _-_, _*_, _/_, _%_, _≤_, _<_, min, max}
 use native.Mathlib.Numerals.{add-one}
 use native.Mathlib.Omega.{arith}
 use lib.Dec.{eqb, ltb, leb}
@@ -18,30 +17,10 @@ use Rattle.tally.proofs.Test.{by-test, no, both, differ-self}
 use Rattle.tally.proofs.First.{from-ge, from-le, from-before, from-passes, from-is}
 use Rattle.tally.proofs.Every.{every-more, every-at}
 use Rattle.trace.specs.Trace.{fresh}
-use Rattle.trace.specs.Search.{Lows, Highs, Blocks, liveAt, FirstIn}
+use Rattle.trace.specs.Search.{slot, reach, Bounds, Slots, liveAt, FirstIn, firstOr}
+use Rattle.trace.proofs.Slots.{slot-at, low-under, high-over}
 
--- what holds of each block below b and of what is stored at b holds of each below b + 1
-stored : (Q : ℕ → ℕ → Type 0) (l : List ℕ) (b v : ℕ) → b < length l → ((c : ℕ) → c < b → Q c (getD l c 0)) → Q b v → (c : ℕ) → c < b + 1 → Q c (getD (set l b v) c 0)
-stored Q l b v h q t c u =
-    by-test (eqb c b)
-    (λ e.
-    let s : c ≡ b = eqb-true c b e in
-    rw (s, getD-set-same l b v 0 h) t)
-    (λ e. rw (getD-set-other l b c v 0 (eqb-false c b e)) (q c (omega (arith, eqb-false c b e))))
-
-module _ (px : List ℕ) where
-  pub lows-none : (lo : List ℕ) → Lows px lo 0
-  lows-none lo = record { bound = λ b h i l. absurd (omega arith) }
-
-  pub highs-none : (hi : List ℕ) → Highs px hi 0
-  highs-none hi = record { bound = λ b h i l. absurd (omega arith) }
-
-  pub lows-more : (lo : List ℕ) (b v : ℕ) → b < length lo → Lows px lo b → ((i : ℕ) → i ≤ 64 → v ≤ getD px (64 * b + i) 0) → Lows px (set lo b v) (b + 1)
-  lows-more lo b v h R q = record { bound = stored (λ c x. (i : ℕ) → i ≤ 64 → x ≤ getD px (64 * c + i) 0) lo b v h (R .bound) q }
-
-  pub highs-more : (hi : List ℕ) (b v : ℕ) → b < length hi → Highs px hi b → ((i : ℕ) → i ≤ 64 → getD px (64 * b + i) 0 ≤ v) → Highs px (set hi b v) (b + 1)
-  highs-more hi b v h R q = record { bound = stored (λ c x. (i : ℕ) → i ≤ 64 → getD px (64 * c + i) 0 ≤ x) hi b v h (R .bound) q }
-
+module _ (px : List ℕ) (four : Bool) where
   -- two samples on one side of the level
   same-side : (k a b : ℕ) → ltb k a ≡ ltb k b → differ (ltb k a) (ltb k b) ≡ false
   same-side k a b e = ap (λ (z : Bool). differ z (ltb k b)) e ∙ differ-self (ltb k b)
@@ -50,24 +29,25 @@ module _ (px : List ℕ) where
   stale-if true y e = no refl e
   stale-if false y e = refl
 
-  pub dead-block : (work lo hi : List ℕ) (k b blocks : ℕ) → Lows px lo blocks → Highs px hi blocks → b < blocks → liveAt lo hi k b ≡ false
+  pub dead-block : (work lo hi : List ℕ) (k b slots : ℕ) → Bounds px lo false four slots → Bounds px hi true four slots → slot four b < slots → liveAt lo hi k (slot four b) ≡ false
       → (i : ℕ) → i < 64 → fresh px work k (64 * b + i) ≡ false
-  dead-block work lo hi k b blocks A Z h e i l =
+  dead-block work lo hi k b slots A Z h e i l =
       let s : 64 * b + i + 1 ≡ 64 * b + (i + 1) = omega arith in
-      let a₀ = A .bound b h i (omega arith) in
-      let z₀ = Z .bound b h i (omega arith) in
-      let a₁ : getD lo b 0 ≤ getD px (64 * b + i + 1) 0 = rw s (A .bound b h (i + 1) (omega arith)) in
-      let z₁ : getD px (64 * b + i + 1) 0 ≤ getD hi b 0 = rw s (Z .bound b h (i + 1) (omega arith)) in
+      let c = slot four b in
+      let a₀ = low-under px four b slots h i (omega arith) lo A in
+      let z₀ = high-over px four b slots h i (omega arith) hi Z in
+      let a₁ : getD lo c 0 ≤ getD px (64 * b + i + 1) 0 = rw s (low-under px four b slots h (i + 1) (omega arith) lo A) in
+      let z₁ : getD px (64 * b + i + 1) 0 ≤ getD hi c 0 = rw s (high-over px four b slots h (i + 1) (omega arith) hi Z) in
       stale-if (differ (ltb k (getD px (64 * b + i) 0)) (ltb k (getD px (64 * b + i + 1) 0))) _
       (same-side k (getD px (64 * b + i) 0) (getD px (64 * b + i + 1) 0)
-      (by-test (leb (getD lo b 0) k)
-      (λ t. by-test (ltb k (getD hi b 0))
+      (by-test (leb (getD lo c 0) k)
+      (λ t. by-test (ltb k (getD hi c 0))
       (λ u. no (both t u) e)
       (λ u.
-      let v : getD hi b 0 ≤ k = ltb-false k (getD hi b 0) u in
+      let v : getD hi c 0 ≤ k = ltb-false k (getD hi c 0) u in
       le-ltb k (getD px (64 * b + i) 0) (omega arith) ∙ sym (le-ltb k (getD px (64 * b + i + 1) 0) (omega arith))))
       (λ t.
-      let v : k < getD lo b 0 = leb-false (getD lo b 0) k t in
+      let v : k < getD lo c 0 = leb-false (getD lo c 0) k t in
       lt-ltb k (getD px (64 * b + i) 0) (omega arith) ∙ sym (lt-ltb k (getD px (64 * b + i + 1) 0) (omega arith)))))
 
 pub any-more : (p : ℕ → Bool) (i any : ℕ) (v : Bool) → every p i ≡ eqb any 0 → p i ≡ not v → every p (i + 1) ≡ eqb (max any (one v)) 0
@@ -117,17 +97,13 @@ module _ (px work : List ℕ) (k a : ℕ) where
         found = λ d. let z = F .found d in (omega (arith, z .0), z .1);
       })
 
-  pub find-end : (i m : ℕ) → 64 ≤ i → Finding i m → FirstIn px work k a 0 m
-  find-end i m h F = record { most = F .most; passed = λ j b c. F .passed j (omega (arith, F .most)) c; found = λ d. (omega arith, F .found d .1) }
+  pub find-end : (i m : ℕ) → 64 ≤ i → Finding i m → FirstIn px work k a m
+  find-end i m h F = record { most = F .most; passed = λ j c. F .passed j (omega (arith, F .most)) c; found = λ d. F .found d .1 }
 
   -- none of the 64
-  pub none-in : every (λ i. not (fresh px work k (a + i))) 64 ≡ true → FirstIn px work k a 0 64
+  pub none-in : every (λ i. not (fresh px work k (a + i))) 64 ≡ true → FirstIn px work k a 64
   none-in e =
-      record { most = omega arith; passed = λ i b c. not-true _ (every-at (λ j. not (fresh px work k (a + j))) 64 e i c); found = λ d. absurd (omega arith) }
-
-  -- not before an offset that the first one is not before
-  pub in-later : (s m : ℕ) → s ≤ m → FirstIn px work k a 0 m → FirstIn px work k a s m
-  in-later s m h R = record { most = R .most; passed = λ i b c. R .passed i (omega arith) c; found = λ d. (h, R .found d .1) }
+      record { most = omega arith; passed = λ i c. not-true _ (every-at (λ j. not (fresh px work k (a + j))) 64 e i c); found = λ d. absurd (omega arith) }
 
 -- ---- over what is passed
 pub from-over : (p : ℕ → Bool) (b c n : ℕ) → b ≤ c → c ≤ n → ((j : ℕ) → b ≤ j → j < c → p j ≡ false) → firstFrom p c (n - c) ≡ firstFrom p b (n - b)
@@ -142,48 +118,74 @@ from-over p b c n g h q =
     (λ t. from-before p c (n - c) j (ltb-false j c t) y))
     (λ t. from-passes p c (n - c) (omega arith)))
 
-module _ (px work lo hi : List ℕ) (k blocks : ℕ) (B : Blocks px lo hi blocks) where
-  -- no place from `from` up to the start of a block is fresh
-  abbrev pub Bare : ℕ → ℕ → Type 0
-  Bare from b = (j : ℕ) → from ≤ j → j < 64 * b → fresh px work k j ≡ false
+module _ (px work : List ℕ) (k : ℕ) where
+  abbrev F : ℕ → Bool
+  F = fresh px work k
 
-  split : (j : ℕ) → 64 * (j / 64) + j % 64 ≡ j
-  split j = omega arith
+  -- no place from a up to x is fresh
+  abbrev pub Stale : ℕ → ℕ → Type 0
+  Stale a x = (j : ℕ) → a ≤ j → j < x → F j ≡ false
 
-  -- one block with no fresh place
-  pub bare-block : (from b s : ℕ) → ((i : ℕ) → s ≤ i → i < 64 → fresh px work k (64 * b + i) ≡ false) → (from ≡ 64 * b + s) ⊎ ((s ≡ 0) × Bare from b) → Bare from (b + 1)
-  bare-block from b s q w j x y =
-      ⊎-elim
-      (λ e. let t : 64 * b + (j - 64 * b) ≡ j = omega arith in ap (fresh px work k) (sym t) ∙ q (j - 64 * b) (omega arith) (omega arith))
-      (λ z. by-test (ltb j (64 * b))
-      (λ t. z .1 j x (ltb-true j (64 * b) t))
+  pub stale-on : (a x n y : ℕ) → y ≡ x + n → Stale a x → ((i : ℕ) → i < n → F (x + i) ≡ false) → Stale a y
+  stale-on a x n y e z q j g h =
+      by-test (ltb j x)
+      (λ t. z j g (ltb-true j x t))
       (λ t.
-      let u : 64 * b ≤ j = ltb-false j (64 * b) t in
-      let v : 64 * b + (j - 64 * b) ≡ j = omega arith in
-      ap (fresh px work k) (sym v) ∙ q (j - 64 * b) (omega (arith, z .0)) (omega arith)))
-      w
+      let u : x ≤ j = ltb-false j x t in
+      let v : x + (j - x) ≡ j = omega arith in
+      ap F (sym v) ∙ q (j - x) (omega arith))
 
-  -- blocks that are not live
-  pub bare-dead : (from b c : ℕ) → c ≤ blocks → Bare from b → ((d : ℕ) → b ≤ d → d < c → liveAt lo hi k d ≡ false) → Bare from c
-  bare-dead from b c h z q j x y =
-      by-test (ltb j (64 * b))
-      (λ t. z j x (ltb-true j (64 * b) t))
+  -- the first of a run that is fresh, or none
+  module _ (a e end : ℕ) (h : a ≤ e) where
+    pub or-found : (x : ℕ) → a ≤ x → x < e → Stale a x → F x ≡ true → x ≡ firstOr px work k a e end
+    or-found x g l z y = let s : firstFrom F a (e - a) ≡ x = from-is F a (e - a) x g (omega arith) z (λ t. y) in rw (s, lt-ltb x e l) refl
+
+    pub or-none : Stale a e → end ≡ firstOr px work k a e end
+    or-none z = let s : firstFrom F a (e - a) ≡ e = from-is F a (e - a) e h (omega arith) z (λ t. absurd (omega arith)) in rw (s, le-ltb e e (omega arith)) refl
+
+    pub or-skip : (b : ℕ) → a ≤ b → b ≤ e → Stale a b → firstOr px work k b e end ≡ firstOr px work k a e end
+    or-skip b g l z = ap (λ (f : ℕ). cond (ltb f e) f end) (from-over F a b e g l z)
+
+    module _ (r : ℕ) (l : e ≤ end) (s : r ≡ firstOr px work k a e end) (z : Stale 0 a) where
+      abbrev f : ℕ
+      f = firstFrom F a (e - a)
+
+      -- found, it is the first of all
+      pub or-first : (from : ℕ) → ((j : ℕ) → j < from → F j ≡ false) → r < end → r ≡ firstFrom F from (end - from)
+      or-first from q u =
+          by-test (ltb f e)
+          (λ t.
+          let v : r ≡ f = s ∙ ap (λ (b : Bool). cond b f end) t in
+          let d = ltb-true f e t in
+          let y : F f ≡ true = from-passes F a (e - a) (omega (arith, h)) in
+          by-test (ltb f from)
+          (λ x. no y (q f (ltb-true f from x)))
+          (λ x. v
+          ∙ sym
+          (from-is F from (end - from) f (ltb-false f from x) (omega (arith, ltb-false f from x))
+          (λ j g i. by-test (ltb j a)
+          (λ w. z j (omega arith) (ltb-true j a w))
+          (λ w. from-before F a (e - a) j (ltb-false j a w) i))
+          (λ w. y))))
+          (λ t. let v : r ≡ end = s ∙ ap (λ (b : Bool). cond b f end) t in absurd (omega arith))
+
+      pub or-bare : end ≤ r → Stale 0 e
+      or-bare u =
+          by-test (ltb f e)
+          (λ t.
+          let v : r ≡ f = s ∙ ap (λ (b : Bool). cond b f end) t in
+          absurd (omega (arith, ltb-true f e t)))
+          (λ t. λ j g i. by-test (ltb j a)
+          (λ w. z j g (ltb-true j a w))
+          (λ w. from-before F a (e - a) j (ltb-false j a w) (omega (arith, ltb-false f e t))))
+
+  -- over the slots that are not live
+  pub stale-next : (lo hi : List ℕ) (four : Bool) (slots : ℕ) → Slots px lo hi four slots → (c r : ℕ) → r ≤ slots → r ≤ firstFrom (liveAt lo hi k) c (slots - c) → Stale 0 (reach four c) → Stale 0 (reach four r)
+  stale-next lo hi four slots B c r h e z j g y =
+      by-test (ltb j (reach four c))
+      (λ t. z j g (ltb-true j (reach four c) t))
       (λ t.
-      let u : 64 * b ≤ j = ltb-false j (64 * b) t in
-      let v : b ≤ j / 64 = omega arith in
-      let w : j / 64 < c = omega arith in
-      ap (fresh px work k) (sym (split j)) ∙ dead-block px work lo hi k (j / 64) blocks (B .lows) (B .highs) (omega arith) (q (j / 64) v w) (j % 64) (omega arith))
-
-  -- up to the next live block, or the end
-  pub bare-next : (from b r : ℕ) → r ≤ blocks → Bare from b → r ≤ firstFrom (liveAt lo hi k) b (blocks - b) → Bare from r
-  bare-next from b r h z e =
-      bare-dead from b r h z (λ d u v. from-before (liveAt lo hi k) b (blocks - b) d u (omega arith))
-
-  -- the next live block, where there is one
-  pub to-live : (from b r : ℕ) → r ≡ firstFrom (liveAt lo hi k) b (blocks - b) → r < blocks → Bare from b → (b ≤ r) × Bare from r
-  to-live from b r e h z = (rw e (from-ge (liveAt lo hi k) b (blocks - b)), bare-next from b r (omega arith) z (omega arith))
-
-  -- over all blocks
-  pub all-bare : (from end : ℕ) → from ≤ 64 * blocks → 64 * blocks ≤ end → Bare from blocks
-      → firstFrom (fresh px work k) (64 * blocks) (end - 64 * blocks) ≡ firstFrom (fresh px work k) from (end - from)
-  all-bare from end h l z = from-over (fresh px work k) from (64 * blocks) end h l z
+      let u = slot-at four c r j (ltb-false j (reach four c) t) y in
+      let s : 64 * (j / 64) + j % 64 ≡ j = omega arith in
+      let d = from-before (liveAt lo hi k) c (slots - c) (slot four (j / 64)) (u .0) (omega (arith, u .1)) in
+      ap F (sym s) ∙ dead-block px four work lo hi k (j / 64) slots (B .lows) (B .highs) (omega (arith, u .1)) d (j % 64) (omega arith))

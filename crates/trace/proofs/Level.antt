@@ -1,6 +1,6 @@
 -- One level: the loop that finds each lead and follows its line. Assumes nothing.
 -- Definitions: `At` what holds at a place before the next lead is looked for; `Scanning` the loop's invariant, where the place leads or the last row is reached; `Done` what the loop leaves.
--- Main laws: `words-grow` words only get more; `mark-all-low` marks stay low; `at-begin`, `to-lead`, `at-line`, `line-room`, `at-end` the loop's moves; `none-left` no line begins on the last row.
+-- Main laws: `words-grow` words only get more; `mark-all-low` marks stay low; `at-begin`, `to-lead`, `at-line`, `line-room`, `at-end` the loop's moves; `line-passed` no place up to a line that was followed is fresh; `none-left` no line begins on the last row.
 use mathlib.Core.Path.{_≡_, refl, sym, ap, _∙_}
 use mathlib.Core.Bool.{true, false}
 use mathlib.Core.List.{List, [], _∷_, _++_, append-nil}
@@ -27,7 +27,7 @@ use Rattle.trace.specs.declared.scan.Written.{Written}
 use Rattle.refuse.specs.Shape.{Ground}
 use Rattle.trace.specs.Trace.{upper, Worn, pasted, fresh}
 use Rattle.count.proofs.Flat.{border-of, cut-above}
-use Rattle.trace.proofs.Scanning.{own, own-not, own-self, paste-on, fresh-lead, over}
+use Rattle.trace.proofs.Scanning.{own, own-not, own-self, paste-on, fresh-lead, passed, over}
 
 -- ---- marks
 mark-low : (v n : ℕ) (bytes : List ℕ) (c : ℕ) → ((i : ℕ) → i < n → getD bytes i 0 ≤ v) → (i : ℕ) → i < n → getD (mark v bytes c) i 0 ≤ v
@@ -158,6 +158,12 @@ module _ (P : Picture) (G : Ground P) (k : ℕ) (L : Layout) where
       line-room =
           omega (arith, Z .stand .words-so, ap length next-words, length-append (W p) (encode L k true (line P k (2 * p))), encode-length L k true (line P k (2 * p)), words-most (suc p) (omega arith))
 
+      line-scanned : (work′ : List ℕ) → work′ ≡ markAll (k + 1) work (line P k (2 * p)) → Scanned P B k (suc p) (marked (own k) work′)
+      line-scanned work′ u = rw u (place-line P B k (own k) (k + 1) (own-self k) p work (λ c h. omega (arith, in-upper c h, wide, Z .stand .worn .long)) (Z .stand .scanned) lead)
+
+      pub line-passed : (work′ : List ℕ) → work′ ≡ markAll (k + 1) work (line P k (2 * p)) → (j : ℕ) → j < p + 1 → fresh (P .px) work′ k j ≡ false
+      line-passed work′ u j h = passed P G k work′ (suc p) (line-scanned work′ u) j (omega (arith, G .sides .w-least)) (omega arith)
+
       pub at-line : (s′ : Written) (work′ words′ : List ℕ) → s′ .words ≡ s .words + length (line P k (2 * p)) → s′ .lines ≡ s .lines + 1
           → work′ ≡ markAll (k + 1) work (line P k (2 * p)) → words′ ≡ pasted words (s .words) (encode L k true (line P k (2 * p))) → At (p + 1) s′ work′ words′
       at-line s′ work′ words′ a b u v =
@@ -166,7 +172,7 @@ module _ (P : Picture) (G : Ground P) (k : ℕ) (L : Layout) where
           rw y
           (record {
             inside = omega arith;
-            scanned = rw u (place-line P B k (own k) (k + 1) (own-self k) p work (λ c h. omega (arith, in-upper c h, wide, Z .stand .worn .long)) (Z .stand .scanned) lead);
+            scanned = line-scanned work′ u;
             told = v
                 ∙ ap (λ (l : List ℕ). pasted l (s .words) (encode L k true (line P k (2 * p)))) (Z .stand .told)
                 ∙ paste-on words₀ from (s .words) (W p) (encode L k true (line P k (2 * p))) (Z .stand .words-so) (omega (arith, line-room))

@@ -7,4 +7,5 @@ pub mod Level
 pub mod All
 pub mod Refusals
 pub mod Zeros
+pub mod Slots
 pub mod Blocks

@@ -1,7 +1,7 @@
 -- Places of one level that are fresh, and those that are not. Assumes nothing.
 -- Definitions: `own` the byte is the level's mark; `Stand` what is unchanged at a later place.
 -- Main laws: `length-pasted`, `paste-on` pasting behind what was pasted; `own-self`, `own-not`; `fresh-lead` a fresh place leads, `stale` one that
---   is not fresh does not; `over` from a place over those that are not fresh.
+--   is not fresh does not; `passed` no place behind is fresh; `over` from a place over those that are not fresh.
 use mathlib.Core.Path.{_≡_, refl, sym, ap, _∙_}
 use mathlib.Core.Bool.{Bool, true, false, not}
 use mathlib.Core.List.{List, _++_, append-assoc}
@@ -19,7 +19,7 @@ use Rattle.edgel.specs.Edgel.{first}
 use Rattle.outline.specs.Line.{cutAt, isLead}
 use Rattle.outline.proofs.Border.{Border}
 use Rattle.outline.proofs.Bytes.{marked}
-use Rattle.outline.proofs.Places.{Scanned, place-tell, place-skip, lead-cut}
+use Rattle.outline.proofs.Places.{Scanned, place-tell, place-skip, place-past, lead-cut}
 use Rattle.outline.proofs.Growing.{linesTo, wordsTo, lines-skip, words-skip}
 use Rattle.refuse.specs.Shape.{Ground}
 use Rattle.trace.specs.Trace.{pasted, fresh}
@@ -78,6 +78,15 @@ module _ (P : Picture) (G : Ground P) (k : ℕ) where
         let o : cutAt P k (2 * i) ≡ true = lead-cut P B k (2 * i) t in
         no (both (cut-crossed P G k i o .1) (sym (ap not (mark-is i)) ∙ place-tell P B k i m M o ∙ t)) e)
         (λ t. t)
+
+    -- no place behind is fresh
+    pub passed : (i : ℕ) → Scanned P B k i m → (j : ℕ) → j + 1 < size P → j < i → fresh (P .px) work k j ≡ false
+    passed i M j l h =
+        by-test (fresh (P .px) work k j)
+        (λ e.
+        let o : cutAt P k (2 * j) ≡ true = crossed-cut P G k j l (and-1 _ _ e) in
+        no (and-2 (differ (high P k j) (high P k (j + 1))) _ e) (ap not (sym (mark-is j) ∙ place-past P B k i m M j o h)))
+        (λ e. e)
 
     -- from a place over those that are not fresh
     module _ (L : Layout) where

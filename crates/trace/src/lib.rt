@@ -4,6 +4,8 @@ mod line;
 mod scan;
 mod search;
 
+use bounds::bounds;
+use bounds::slot_of;
 use count::count_words;
 pub use line::at_lead;
 pub use line::lead_state;
@@ -21,6 +23,7 @@ ghost use lib.ListN.{length, drop, replicate};
 ghost use Rattle.matte.specs.Layout.{eight};
 ghost use Rattle.matte.specs.Picture.{picture};
 ghost use Rattle.outline.specs.List.{listVerdict, listAnswer, listWork, listWords};
+ghost use Rattle.trace.specs.Search.{reach};
 
 // Sets the first n bytes to 0.
 pub fn clear(work: &mut [u8], n: usize)
@@ -84,14 +87,18 @@ pub fn list_verdict(
 }
 
 // Lists every line of every level into the lent word places, or refuses and changes nothing. Marks begin half a row into the work bytes, for speed.
-pub fn list(
+fn list_by(
     w: usize,
     h: usize,
     px: &[u8],
     levels: &[u8],
     work: &mut [u8],
     words: &mut [u32],
+    lo: &mut [u8],
+    hi: &mut [u8],
+    four: bool,
 ) -> Answer
+    requires { ⌜ (4194304 ≤ reach four (length (now lo))) × (4194304 ≤ reach four (length (now hi))) ⌝ }
     ensures { λ r. ⌜ (r ≡ listAnswer eight (picture w h (now (px .entry))) (now (levels .entry)) (now (work .entry)) (now (words .entry))) × (now (work .exit) ≡ listWork eight (picture w h (now (px .entry))) (now (levels .entry)) (now (work .entry)) (now (words .entry))) × (now (words .exit) ≡ listWords eight (picture w h (now (px .entry))) (now (levels .entry)) (now (work .entry)) (now (words .entry))) ⌝ }
 {
     let v = list_verdict(w, h, px, levels, work, words);
@@ -105,7 +112,20 @@ pub fn list(
     }
     let n = area(w, h);
     clear(work, n);
-    let s = all_levels(px, w, h, levels, &mut work[w / 2..], words);
+    let slots = slot_of(four, (px.len() - w) / 64);
+    bounds(px, lo, hi, four, slots);
+    let s = all_levels(
+        px,
+        w,
+        h,
+        levels,
+        &mut work[w / 2..],
+        words,
+        lo,
+        hi,
+        four,
+        slots,
+    );
     clear(work, n);
     Answer {
         number: 0,
@@ -113,4 +133,36 @@ pub fn list(
         words: s.words,
         lines: s.lines,
     }
+}
+
+// The same, with bounds of 64 samples each on the stack.
+pub fn list(
+    w: usize,
+    h: usize,
+    px: &[u8],
+    levels: &[u8],
+    work: &mut [u8],
+    words: &mut [u32],
+) -> Answer
+    ensures { λ r. ⌜ (r ≡ listAnswer eight (picture w h (now (px .entry))) (now (levels .entry)) (now (work .entry)) (now (words .entry))) × (now (work .exit) ≡ listWork eight (picture w h (now (px .entry))) (now (levels .entry)) (now (work .entry)) (now (words .entry))) × (now (words .exit) ≡ listWords eight (picture w h (now (px .entry))) (now (levels .entry)) (now (work .entry)) (now (words .entry))) ⌝ }
+{
+    let mut lo = [0u8; 65536];
+    let mut hi = [0u8; 65536];
+    list_by(w, h, px, levels, work, words, &mut lo, &mut hi, false)
+}
+
+// The same on a quarter of the stack, and slower: bounds of 256 samples each.
+pub fn list_lean(
+    w: usize,
+    h: usize,
+    px: &[u8],
+    levels: &[u8],
+    work: &mut [u8],
+    words: &mut [u32],
+) -> Answer
+    ensures { λ r. ⌜ (r ≡ listAnswer eight (picture w h (now (px .entry))) (now (levels .entry)) (now (work .entry)) (now (words .entry))) × (now (work .exit) ≡ listWork eight (picture w h (now (px .entry))) (now (levels .entry)) (now (work .entry)) (now (words .entry))) × (now (words .exit) ≡ listWords eight (picture w h (now (px .entry))) (now (levels .entry)) (now (work .entry)) (now (words .entry))) ⌝ }
+{
+    let mut lo = [0u8; 16384];
+    let mut hi = [0u8; 16384];
+    list_by(w, h, px, levels, work, words, &mut lo, &mut hi, true)
 }

@@ -1,12 +1,11 @@
 // The lines of one level in the order of their leads, and of all levels.
-use crate::bounds::bounds;
 use crate::line::trace_line;
 use crate::search::search;
-ghost use Prim.Native.Nat.{_+_, _-_, _*_, _≤_, _<_};
+ghost use Prim.Native.Nat.{_+_, _-_, _≤_, _<_};
 ghost use lib.ListN.{length};
 ghost use Rattle.matte.specs.Picture.{picture};
 ghost use Rattle.outline.specs.Line.{lines};
-ghost use Rattle.trace.specs.Search.{Blocks};
+ghost use Rattle.trace.specs.Search.{reach, Slots};
 ghost use Rattle.trace.specs.Level.{LevelReady, LevelDone, AllReady, AllDone};
 
 // The words and lines written so far.
@@ -21,19 +20,20 @@ fn level_lines(
     w: usize,
     h: usize,
     k: u8,
-    lo: &[u8; 65536],
-    hi: &[u8; 65536],
-    blocks: usize,
+    lo: &[u8],
+    hi: &[u8],
+    four: bool,
+    slots: usize,
     work: &mut [u8],
     words: &mut [u32],
     st: Written,
 ) -> Written
-    requires { ⌜ (LevelReady (picture w h (now px)) k (now work) (now words) st) × (64 * blocks ≤ length (now px) - w) × (Blocks (now px) (now lo) (now hi) blocks) ⌝ }
+    requires { ⌜ (LevelReady (picture w h (now px)) k (now work) (now words) st) × (reach four slots ≤ length (now px) - w) × (Slots (now px) (now lo) (now hi) four slots) ⌝ }
     ensures { λ r. ⌜ LevelDone (picture w h (now (px .entry))) k (now (work .entry)) (now (words .entry)) st r (now (work .exit)) (now (words .exit)) ⌝ }
 {
     let end = px.len() - w;
     let mut s = st;
-    let mut p = search(px, work, lo, hi, blocks, k, 0, end);
+    let mut p = search(px, work, lo, hi, four, slots, k, 0, end);
     while p < end {
         let from = s.words;
         let m = s.lines;
@@ -42,7 +42,7 @@ fn level_lines(
             words: n,
             lines: m + 1,
         };
-        p = search(px, work, lo, hi, blocks, k, p + 1, end);
+        p = search(px, work, lo, hi, four, slots, k, p + 1, end);
     }
     s
 }
@@ -55,19 +55,19 @@ pub fn all_levels(
     ks: &[u8],
     work: &mut [u8],
     words: &mut [u32],
+    lo: &[u8],
+    hi: &[u8],
+    four: bool,
+    slots: usize,
 ) -> Written
-    requires { ⌜ AllReady (picture w h (now px)) (now ks) (now work) (now words) ⌝ }
+    requires { ⌜ (AllReady (picture w h (now px)) (now ks) (now work) (now words)) × (reach four slots ≤ length (now px) - w) × (Slots (now px) (now lo) (now hi) four slots) ⌝ }
     ensures { λ r. ⌜ AllDone (picture w h (now (px .entry))) (now (ks .entry)) (now (work .entry)) (now (words .entry)) r (now (work .exit)) (now (words .exit)) ⌝ }
 {
-    let blocks = (px.len() - w) / 64;
-    let mut lo = [0u8; 65536];
-    let mut hi = [0u8; 65536];
-    bounds(px, &mut lo, &mut hi, blocks);
     let mut s = Written { words: 0, lines: 0 };
     let mut j: usize = 0;
     while j < ks.len() {
         let k = ks[j];
-        s = level_lines(px, w, h, k, &lo, &hi, blocks, work, words, s);
+        s = level_lines(px, w, h, k, lo, hi, four, slots, work, words, s);
         j += 1;
     }
     s

@@ -9,7 +9,7 @@ use matte::Answer;
 use matte::Verdict;
 use note::note_all;
 use rank::crossings_of;
-use trace::list;
+use trace::list_lean;
 use trace::list_verdict;
 use walk::strip;
 use walk::walk;
@@ -71,13 +71,13 @@ fn make(
     requires { ⌜ (listVerdict eight (picture w h (now px)) (now levels) (now work) (now words) .number ≡ 0) × (half (picture w h (now px)) (now levels) ≤ length (now places)) ⌝ }
     ensures { λ r. ⌜ TreeMade (picture w h (now (px .entry))) (now (levels .entry)) (now (work .entry)) (now (words .entry)) (now (places .entry)) r (now (work .exit)) (now (words .exit)) (now (places .exit)) ⌝ }
 {
-    let a = list(w, h, px, levels, work, words);
+    let a = list_lean(w, h, px, levels, work, words);
     let n = a.lines;
     collect(words, a.words, places);
     note_all(px, w, h, levels, places, n, work, words);
     walk(px, w, h, levels, words, places);
     strip(places, n);
-    list(w, h, px, levels, work, words)
+    list_lean(w, h, px, levels, work, words)
 }
 
 // Lists every line of every level and gives each its entry in the tree, or refuses and changes nothing.

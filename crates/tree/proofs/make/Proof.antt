@@ -5,47 +5,47 @@ use Rattle.tree.proofs.Making.{work-wide, collect-ready, notes-ready, w
 use Rattle.tree.proofs.make.Statement.{statement}
 use Rattle.tree.proofs.make.Tie as tie
 
-list-requires : tie.Need-list-requires
-list-requires c κs = tt
+list-lean-requires : tie.Need-list-lean-requires
+list-lean-requires c κs = tt
 
 collect-requires : tie.Need-collect-requires
 collect-requires c κs =
     let z = c .before .before .before .before .before .before .before .before .before .before .before .before .before .before in
     let a = z .args in
-    let l = c .before .before .before .before .before .before .list in
+    let l = c .before .before .before .before .before .before .list-lean in
     collect-ready (picture (a .w) (a .h) (a .px .now)) (a .levels .now) (a .work .now) (a .words .now) (a .places .now) (z .pre .0) (z .pre .1) _ _ _ (l .ensures .0) (l .ensures .1) (l .ensures .2)
 
 note-all-requires : tie.Need-note-all-requires
 note-all-requires c κs =
     let z = c .before .before .before .before .before .before .before .before .before .before .before .before .before .before .before .before .before .before .before .before in
     let a = z .args in
-    let l = c .before .before .before .before .before .before .before .before .before .before .before .before .list in
+    let l = c .before .before .before .before .before .before .before .before .before .before .before .before .list-lean in
     (notes-ready (picture (a .w) (a .h) (a .px .now)) (a .levels .now) (a .work .now) (a .words .now) (a .places .now) (z .pre .0) (z .pre .1) _ _ _ (l .ensures .0) (l .ensures .1) (l .ensures .2) _ (c .before .before .before .before .before .collect .ensures), work-wide (picture (a .w) (a .h) (a .px .now)) (a .levels .now) (a .work .now) (a .words .now) (a .places .now) (z .pre .0) (z .pre .1) _ _ _ (l .ensures .0) (l .ensures .1) (l .ensures .2))
 
 walk-requires : tie.Need-walk-requires
 walk-requires c κs =
     let z = c .before .before .before .before .before .before .before .before .before .before .before .before .before .before .before .before .before .before .before .before .before .before .before .before .before .before .before in
     let a = z .args in
-    let l = c .before .before .before .before .before .before .before .before .before .before .before .before .before .before .before .before .before .before .before .list in
+    let l = c .before .before .before .before .before .before .before .before .before .before .before .before .before .before .before .before .before .before .before .list-lean in
     (walk-ready (picture (a .w) (a .h) (a .px .now)) (a .levels .now) (a .work .now) (a .words .now) (a .places .now) (z .pre .0) (z .pre .1) _ _ _ (l .ensures .0) (l .ensures .1) (l .ensures .2) _ (c .before .before .before .before .before .before .before .before .before .before .before .before .collect .ensures) _ (c .before .before .before .before .before .before .note-all .ensures .1) (c .before .before .before .before .before .before .note-all .kept .1 .1 .1 .1 .1 .1 .1 .0), c .before .before .before .before .before .before .note-all .ensures .0)
 
 strip-requires : tie.Need-strip-requires
 strip-requires c κs =
     let z = c .before .before .before .before .before .before .before .before .before .before .before .before .before .before .before .before .before .before .before .before .before .before .before .before .before .before .before .before .before .before .before in
     let a = z .args in
-    let l = c .before .before .before .before .before .before .before .before .before .before .before .before .before .before .before .before .before .before .before .before .before .before .before .list in
+    let l = c .before .before .before .before .before .before .before .before .before .before .before .before .before .before .before .before .before .before .before .before .before .before .before .list-lean in
     strip-ready (picture (a .w) (a .h) (a .px .now)) (a .levels .now) (a .work .now) (a .words .now) (a .places .now) (z .pre .0) (z .pre .1) _ _ _ (l .ensures .0) (l .ensures .1) (l .ensures .2) _ (c .before .before .before .before .before .before .before .before .before .before .before .before .before .before .before .before .collect .ensures) _ (c .before .before .before .before .before .before .before .before .before .before .note-all .ensures .1) (c .before .before .before .before .before .before .before .before .before .before .note-all .kept .1 .1 .1 .1 .1 .1 .1 .0) _ (c .before .before .before .walk .ensures)
 
-list-requires-2 : tie.Need-list-requires-2
-list-requires-2 c κs = tt
+list-lean-requires-2 : tie.Need-list-lean-requires-2
+list-lean-requires-2 c κs = tt
 
 same-length : tie.Need-same-length
 same-length c =
-    c .before .before .before .before .list2 .kept .1 .1 .1 .1 .0 ∙ c .before .before .before .before .before .before .before .before .before .before .before .before .before .before .before .before .before .before .before .before .note-all .kept .1 .1 .1 .1 .1 .1 .0 ∙ c .before .before .before .before .before .before .before .before .before .before .before .before .before .before .before .before .before .before .before .before .before .before .before .before .before .before .before .before .before .before .before .before .before .list .kept .1 .1 .1 .1 .0
+    c .before .before .before .before .list-lean2 .kept .1 .1 .1 .1 .0 ∙ c .before .before .before .before .before .before .before .before .before .before .before .before .before .before .before .before .before .before .before .before .note-all .kept .1 .1 .1 .1 .1 .1 .0 ∙ c .before .before .before .before .before .before .before .before .before .before .before .before .before .before .before .before .before .before .before .before .before .before .before .before .before .before .before .before .before .before .before .before .before .list-lean .kept .1 .1 .1 .1 .0
 
 same-length-2 : tie.Need-same-length-2
 same-length-2 c =
-    c .before .before .before .before .list2 .kept .1 .1 .1 .1 .1 .0 ∙ c .before .before .before .before .before .before .before .before .before .before .before .before .before .before .before .before .before .before .before .before .note-all .kept .1 .1 .1 .1 .1 .1 .1 .0 ∙ c .before .before .before .before .before .before .before .before .before .before .before .before .before .before .before .before .before .before .before .before .before .before .before .before .before .before .before .before .before .before .before .before .before .list .kept .1 .1 .1 .1 .1 .0
+    c .before .before .before .before .list-lean2 .kept .1 .1 .1 .1 .1 .0 ∙ c .before .before .before .before .before .before .before .before .before .before .before .before .before .before .before .before .before .before .before .before .note-all .kept .1 .1 .1 .1 .1 .1 .1 .0 ∙ c .before .before .before .before .before .before .before .before .before .before .before .before .before .before .before .before .before .before .before .before .before .before .before .before .before .before .before .before .before .before .before .before .before .list-lean .kept .1 .1 .1 .1 .1 .0
 
 same-length-3 : tie.Need-same-length-3
 same-length-3 c = c .before .before .before .before .before .before .before .before .before .strip .kept .0 ∙ c .before .before .before .before .before .before .before .before .before .before .before .before .before .walk .kept .1 .1 .1 .1 .1 .0 ∙ c .before .before .before .before .before .before .before .before .before .before .before .before .before .before .before .before .before .before .before .before .before .before .before .before .before .before .collect .kept .1 .1 .0
@@ -54,20 +54,20 @@ returns : tie.Need-returns
 returns c =
     let z = c .before .before .before .before .before .before .before .before .before .before .before .before .before .before .before .before .before .before .before .before .before .before .before .before .before .before .before .before .before .before .before .before .before .before .before .before .before .before .before .before .before in
     let a = z .args in
-    let l = c .before .before .before .before .before .before .before .before .before .before .before .before .before .before .before .before .before .before .before .before .before .before .before .before .before .before .before .before .before .before .before .before .before .list in
-    let r = c .before .before .before .before .list2 in
+    let l = c .before .before .before .before .before .before .before .before .before .before .before .before .before .before .before .before .before .before .before .before .before .before .before .before .before .before .before .before .before .before .before .before .before .list-lean in
+    let r = c .before .before .before .before .list-lean2 in
     made (picture (a .w) (a .h) (a .px .now)) (a .levels .now) (a .work .now) (a .words .now) (a .places .now) (z .pre .0) (z .pre .1) _ _ _ (l .ensures .0) (l .ensures .1) (l .ensures .2) _ (c .before .before .before .before .before .before .before .before .before .before .before .before .before .before .before .before .before .before .before .before .before .before .before .before .before .before .collect .ensures) _ (c .before .before .before .before .before .before .before .before .before .before .before .before .before .before .before .before .before .before .before .before .note-all .ensures .1) (c .before .before .before .before .before .before .before .before .before .before .before .before .before .before .before .before .before .before .before .before .note-all .kept .1 .1 .1 .1 .1 .1 .1 .0) _ (c .before .before .before .before .before .before .before .before .before .before .before .before .before .walk .ensures) _ (c .before .before .before .before .before .before .before .before .before .strip .ensures) _ (c .before .before .before .before .before .before .before .before .before .before .before .before .before .before .before .before .before .before .before .before .note-all .ensures .2) (c .before .before .before .before .before .before .before .before .before .before .before .before .before .before .before .before .before .before .before .before .note-all .kept .1 .1 .1 .1 .1 .1 .0) _ _ _ (r .ensures .0) (r .ensures .1) (r .ensures .2)
 
 pub make-spec : {M : Type 1} → statement M
 make-spec =
     tie.close
     (tie.spec
-    list-requires
+    list-lean-requires
     collect-requires
     note-all-requires
     walk-requires
     strip-requires
-    list-requires-2
+    list-lean-requires-2
     same-length
     same-length-2
     same-length-3

@@ -12,32 +12,32 @@ use Rattle.trace.specs.Level.{LevelReady}
 use Rattle.count.proofs.Flat.{area-most}
 use Rattle.count.proofs.Counting.{row-fits}
 use Rattle.trace.proofs.Flag.{line-cons}
-use Rattle.trace.proofs.Level.{Scanning, at-begin, to-lead, lead-here, line-room, at-line, at-end}
+use Rattle.trace.proofs.Level.{Scanning, at-begin, to-lead, lead-here, line-room, line-passed, at-line, at-end}
 use Rattle.trace.proofs.scan.level_lines.Statement.{statement}
 use Rattle.trace.proofs.scan.level_lines.Tie as tie
 
 abbrev Inv-loop : tie.InvT-loop
-Inv-loop px w h k lo hi blocks work₀ words₀ end s₀ p₀ work words s p =
+Inv-loop px w h k lo hi four slots work₀ words₀ end s₀ p₀ work words s p =
     (length work ≡ length work₀)
     × (length words ≡ length words₀)
     × (s .lines ≤ s .words)
     × ((R : LevelReady (picture w h px) k work₀ words₀ s₀) → Scanning (picture w h px) (R .ground) k eight (s₀ .words) (s₀ .lines) work₀ words₀ (R .wide) (R .room) p s work words)
 
 abbrev μ-loop : tie.MeasureT-loop
-μ-loop px w h k lo hi blocks work₀ words₀ end s₀ p₀ work words s p = length px - w - p
+μ-loop px w h k lo hi four slots work₀ words₀ end s₀ p₀ work words s p = length px - w - p
 
 sub-end : tie.Need-sub-end Inv-loop μ-loop
-sub-end c = omega (arith, row-fits (c .before .before .before .pre .0 .ground))
+sub-end c = omega (arith, row-fits (c .before .before .before .before .before .pre .0 .ground))
 
 search-requires : tie.Need-search-requires Inv-loop μ-loop
 search-requires c κs =
-    let z = c .before .before .before .before in
+    let z = c .before .before .before .before .before .before in
     let R = z .pre .0 in
-    (omega arith, omega (arith, row-fits (R .ground), R .ground .sides .w-least), omega (arith, R .ground .whole, R .wide), R .level, z .pre .1, z .pre .2)
+    (omega arith, omega (arith, row-fits (R .ground), R .ground .sides .w-least), omega (arith, R .ground .whole, R .wide), R .level, z .pre .1, z .pre .2, λ j h. absurd (omega arith))
 
 loop-holds : tie.Need-loop-holds Inv-loop μ-loop
 loop-holds c =
-    let z = c .before .before .before .before .before in
+    let z = c .before .before .before .before .before .before .before in
     let a = z .args in (
       refl,
       refl,
@@ -48,7 +48,7 @@ loop-holds c =
 
 trace-line-requires : tie.Need-trace-line-requires Inv-loop μ-loop
 trace-line-requires c κs =
-    let z = c .before .before .before .before .before .before .before .before .before in
+    let z = c .before .before .before .before .before .before .before .before .before .before .before in
     let a = z .args in
     let R = z .pre .0 in
     let l = c .before .before .before .loop in
@@ -63,17 +63,17 @@ trace-line-requires c κs =
 
 add-search : tie.Need-add-search Inv-loop μ-loop
 add-search c =
-    let z = c .before .before .before .before .before .before .before .before .before .before .before .before .before .before in
+    let z = c .before .before .before .before .before .before .before .before .before .before .before .before .before .before .before .before in
     let a = z .args in
     let R = z .pre .0 in
     let l = c .before .before .before .before .before .before .before .before .loop in
     let Z = l .inv .3 R in
     let t : l .p < upper (picture (a .w) (a .h) (a .px .now)) = omega (arith, c .before .before .before .before .before .before .before .loop-test .taken, R .ground .whole) in
-    omega (arith, l .inv .2, line-room (picture (a .w) (a .h) (a .px .now)) (R .ground) (a .k) eight (a .st .words) (a .st .lines) (a .work .now) (a .words .now) (R .wide) (R .room) (l .p) (l .s) (l .work) (l .words) Z t, z .good .1 .1 .1 .1 .1 .1 .1 .1 .0 .1)
+    omega (arith, l .inv .2, line-room (picture (a .w) (a .h) (a .px .now)) (R .ground) (a .k) eight (a .st .words) (a .st .lines) (a .work .now) (a .words .now) (R .wide) (R .room) (l .p) (l .s) (l .work) (l .words) Z t, z .good .1 .1 .1 .1 .1 .1 .1 .1 .1 .0 .1)
 
 add-search-2 : tie.Need-add-search-2 Inv-loop μ-loop
 add-search-2 c =
-    let z = c .before .before .before .before .before .before .before .before .before .before .before .before .before .before .before in
+    let z = c .before .before .before .before .before .before .before .before .before .before .before .before .before .before .before .before .before in
     let a = z .args in
     let R = z .pre .0 in
     let l = c .before .before .before .before .before .before .before .before .before .loop in
@@ -82,17 +82,17 @@ add-search-2 c =
 
 search-requires-2 : tie.Need-search-requires-2 Inv-loop μ-loop
 search-requires-2 c κs =
-    let z = c .before .before .before .before .before .before .before .before .before .before .before .before .before .before .before in
+    let z = c .before .before .before .before .before .before .before .before .before .before .before .before .before .before .before .before .before in
     let a = z .args in
     let R = z .pre .0 in
     let l = c .before .before .before .before .before .before .before .before .before .loop in
     let Z = l .inv .3 R in
     let t : l .p < upper (picture (a .w) (a .h) (a .px .now)) = omega (arith, c .before .before .before .before .before .before .before .before .loop-test .taken, R .ground .whole) in
-    (omega (arith, R .ground .whole), omega (arith, row-fits (R .ground), R .ground .sides .w-least), omega (arith, c .before .before .before .before .before .trace-line .kept .1 .1 .1 .1 .0, l .inv .0, R .ground .whole, R .wide), R .level, z .pre .1, z .pre .2)
+    (omega (arith, R .ground .whole), omega (arith, row-fits (R .ground), R .ground .sides .w-least), omega (arith, c .before .before .before .before .before .trace-line .kept .1 .1 .1 .1 .0, l .inv .0, R .ground .whole, R .wide), R .level, z .pre .1, z .pre .2, line-passed (picture (a .w) (a .h) (a .px .now)) (R .ground) (a .k) eight (a .st .words) (a .st .lines) (a .work .now) (a .words .now) (R .wide) (R .room) (l .p) (l .s) (l .work) (l .words) Z t _ (c .before .before .before .before .before .trace-line .ensures .1))
 
 loop-less : tie.Need-loop-less Inv-loop μ-loop
 loop-less c =
-    let z = c .before .before .before .before .before .before .before .before .before .before .before .before .before .before .before .before in
+    let z = c .before .before .before .before .before .before .before .before .before .before .before .before .before .before .before .before .before .before in
     let a = z .args in
     let R = z .pre .0 in
     let l = c .before .before .before .before .before .before .before .before .before .before .loop in
@@ -101,7 +101,7 @@ loop-less c =
 
 loop-again : tie.Need-loop-again Inv-loop μ-loop
 loop-again c =
-    let z = c .before .before .before .before .before .before .before .before .before .before .before .before .before .before .before .before in
+    let z = c .before .before .before .before .before .before .before .before .before .before .before .before .before .before .before .before .before .before in
     let a = z .args in
     let R = z .pre .0 in
     let l = c .before .before .before .before .before .before .before .before .before .before .loop in
@@ -125,7 +125,7 @@ same-length-2 c = c .before .loop .inv .1
 
 returns : tie.Need-returns Inv-loop μ-loop
 returns c =
-    let z = c .before .before .before .before .before .before .before in
+    let z = c .before .before .before .before .before .before .before .before .before in
     let a = z .args in
     let R = z .pre .0 in
     let l = c .before .loop in

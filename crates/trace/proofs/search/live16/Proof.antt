@@ -24,14 +24,14 @@ loop-holds c = (omega arith, every-none _)
 add-one-if : tie.Need-add-one-if Inv-loop μ-loop
 add-one-if c = search needs
 
-element-copy-out-one-if : tie.Need-element-copy-out-one-if Inv-loop μ-loop
-element-copy-out-one-if c = search needs
+shared-slice-read-one-if : tie.Need-shared-slice-read-one-if Inv-loop μ-loop
+shared-slice-read-one-if c = search needs
 
 add-one-if-2 : tie.Need-add-one-if-2 Inv-loop μ-loop
 add-one-if-2 c = search needs
 
-element-copy-out-one-if-2 : tie.Need-element-copy-out-one-if-2 Inv-loop μ-loop
-element-copy-out-one-if-2 c = search needs
+shared-slice-read-one-if-2 : tie.Need-shared-slice-read-one-if-2 Inv-loop μ-loop
+shared-slice-read-one-if-2 c = search needs
 
 one-if-requires : tie.Need-one-if-requires Inv-loop μ-loop
 one-if-requires c κs = tt
@@ -47,20 +47,20 @@ loop-less c = search needs
 
 loop-again : tie.Need-loop-again Inv-loop μ-loop
 loop-again c =
-    let a = c .before .before .before .before .before .before .args in
+    let a = c .before .before .before .before .before .before .before .before .args in
     let l = c .before .before .before .before .before .loop in
-    let p : ℕ → Bool = λ j. not (liveAt (a .lo .now) (a .hi .now) (a .k) (a .b + j)) in (
+    let p : ℕ → Bool = λ j. not (liveAt (a .lo .now) (a .hi .now) (a .k) (a .c + j)) in (
       omega arith,
-      any-more p (l .i) (l .any) (liveAt (a .lo .now) (a .hi .now) (a .k) (a .b + l .i)) (l .inv .1) refl
+      any-more p (l .i) (l .any) (liveAt (a .lo .now) (a .hi .now) (a .k) (a .c + l .i)) (l .inv .1) refl
           ∙ ap (λ (z : ℕ). eqb z 0) (sym (c .greater .ensures ∙ ap (max (l .any)) (c .before .one-if .ensures .0))),
     )
 
 returns : tie.Need-returns Inv-loop μ-loop
 returns c =
-    let a = c .before .before .args in
+    let a = c .before .before .before .before .args in
     let l = c .before .loop in
     let e : l .i ≡ 16 = omega (arith, c .loop-test .left, l .inv .0) in
-    ap not (sym (l .inv .1) ∙ ap (every (λ j. not (liveAt (a .lo .now) (a .hi .now) (a .k) (a .b + j)))) e)
+    ap not (sym (l .inv .1) ∙ ap (every (λ j. not (liveAt (a .lo .now) (a .hi .now) (a .k) (a .c + j)))) e)
 
 pub live16-spec : {M : Type 1} → statement M
 live16-spec =
@@ -70,9 +70,9 @@ live16-spec =
     μ-loop
     loop-holds
     add-one-if
-    element-copy-out-one-if
+    shared-slice-read-one-if
     add-one-if-2
-    element-copy-out-one-if-2
+    shared-slice-read-one-if-2
     one-if-requires
     greater-requires
     add-i

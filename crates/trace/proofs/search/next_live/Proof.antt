@@ -1,4 +1,4 @@
--- `trace::search::next_live` meets its contract: no block passed was live. Assumes nothing.
+-- `trace::search::next_live` meets its contract: no slot passed was live. Assumes nothing.
 use mathlib.Core.Path.{_≡_, refl, sym, ap, _∙_}
 use mathlib.Core.Bool.{Bool, true, false, not}
 use Prim.Native.Nat.{ℕ, _+_, _-_, _≤_, _<_}
@@ -14,39 +14,39 @@ use Rattle.trace.proofs.search.next_live.Statement.{statement}
 use Rattle.trace.proofs.search.next_live.Tie as tie
 
 abbrev Inv-loop : tie.InvT-loop
-Inv-loop lo hi b blocks k c₀ c = (b ≤ c) × (c ≤ blocks) × ((d : ℕ) → b ≤ d → d < c → liveAt lo hi k d ≡ false)
+Inv-loop lo hi b slots k c₀ c = (b ≤ c) × (c ≤ slots) × ((d : ℕ) → b ≤ d → d < c → liveAt lo hi k d ≡ false)
 
 abbrev μ-loop : tie.MeasureT-loop
-μ-loop lo hi b blocks k c₀ c = blocks - c
+μ-loop lo hi b slots k c₀ c = slots - c
 
 loop-holds : tie.Need-loop-holds Inv-loop μ-loop
-loop-holds c = (omega arith, c .pre .0, λ d x y. absurd (omega arith))
+loop-holds c = (omega arith, c .before .before .pre .0, λ d x y. absurd (omega arith))
 
 add-loop : tie.Need-add-loop Inv-loop μ-loop
-add-loop c = omega (arith, c .loop .inv .1, c .before .pre .1)
+add-loop c = omega (arith, c .loop .inv .1, c .before .before .before .pre .1)
 
 live16-requires : tie.Need-live16-requires Inv-loop μ-loop
-live16-requires c κs = omega (arith, c .loop-test .taken, c .before .before .pre .1)
+live16-requires c κs = omega (arith, c .loop-test .taken, c .before .before .before .before .pre .1)
 
 scan-live-requires : tie.Need-scan-live-requires Inv-loop μ-loop
-scan-live-requires c κs = (c .before .before .before .loop .inv .1, c .before .before .before .before .pre .1)
+scan-live-requires c κs = (c .before .before .before .loop .inv .1, c .before .before .before .before .before .before .pre .2, c .before .before .before .before .before .before .pre .3)
 
 returns : tie.Need-returns Inv-loop μ-loop
 returns c =
-    let z = c .before .before .before .before .before in
+    let z = c .before .before .before .before .before .before .before in
     let a = z .args in
     let l = c .before .before .before .before .loop in
-    c .scan-live .ensures ∙ from-over (liveAt (a .lo .now) (a .hi .now) (a .k)) (a .b) (l .c) (a .blocks) (l .inv .0) (l .inv .1) (l .inv .2)
+    c .scan-live .ensures ∙ from-over (liveAt (a .lo .now) (a .hi .now) (a .k)) (a .b) (l .c) (a .slots) (l .inv .0) (l .inv .1) (l .inv .2)
 
 add-c : tie.Need-add-c Inv-loop μ-loop
-add-c c = omega (arith, c .before .before .loop-test .taken, c .before .before .before .before .pre .1)
+add-c c = omega (arith, c .before .before .loop-test .taken, c .before .before .before .before .before .before .pre .1)
 
 loop-less : tie.Need-loop-less Inv-loop μ-loop
 loop-less c = omega (arith, c .before .before .loop-test .taken)
 
 loop-again : tie.Need-loop-again Inv-loop μ-loop
 loop-again c =
-    let z = c .before .before .before .before in
+    let z = c .before .before .before .before .before .before in
     let a = z .args in
     let l = c .before .before .before .loop in
     let none : every (λ i. not ((liveAt (a .lo .now) (a .hi .now) (a .k)) (l .c + i))) 16 ≡ true = not-false _ (sym (c .before .live16 .ensures) ∙ c .if1 .left) in (
@@ -62,14 +62,14 @@ loop-again c =
     )
 
 scan-live-requires-2 : tie.Need-scan-live-requires-2 Inv-loop μ-loop
-scan-live-requires-2 c κs = (c .before .loop .inv .1, c .before .before .pre .1)
+scan-live-requires-2 c κs = (c .before .loop .inv .1, c .before .before .before .before .pre .2, c .before .before .before .before .pre .3)
 
 returns-2 : tie.Need-returns-2 Inv-loop μ-loop
 returns-2 c =
-    let z = c .before .before .before in
+    let z = c .before .before .before .before .before in
     let a = z .args in
     let l = c .before .before .loop in
-    c .scan-live2 .ensures ∙ from-over (liveAt (a .lo .now) (a .hi .now) (a .k)) (a .b) (l .c) (a .blocks) (l .inv .0) (l .inv .1) (l .inv .2)
+    c .scan-live2 .ensures ∙ from-over (liveAt (a .lo .now) (a .hi .now) (a .k)) (a .b) (l .c) (a .slots) (l .inv .0) (l .inv .1) (l .inv .2)
 
 pub next-live-spec : {M : Type 1} → statement M
 next-live-spec =

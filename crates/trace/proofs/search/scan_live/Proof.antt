@@ -1,4 +1,4 @@
--- `trace::search::scan_live` meets its contract: no block passed was live. Assumes nothing.
+-- `trace::search::scan_live` meets its contract: no slot passed was live. Assumes nothing.
 use mathlib.Core.Path.{_≡_, refl, sym, ap, _∙_}
 use mathlib.Core.Bool.{Bool, true, false, not}
 use Prim.Native.Nat.{ℕ, _+_, _-_, _≤_, _<_}
@@ -16,32 +16,32 @@ use Rattle.trace.proofs.search.scan_live.Statement.{statement}
 use Rattle.trace.proofs.search.scan_live.Tie as tie
 
 abbrev Inv-loop : tie.InvT-loop
-Inv-loop lo hi b blocks k c₀ c = (b ≤ c) × (c ≤ blocks) × ((d : ℕ) → b ≤ d → d < c → liveAt lo hi k d ≡ false)
+Inv-loop lo hi b slots k c₀ c = (b ≤ c) × (c ≤ slots) × ((d : ℕ) → b ≤ d → d < c → liveAt lo hi k d ≡ false)
 
 abbrev μ-loop : tie.MeasureT-loop
-μ-loop lo hi b blocks k c₀ c = blocks - c
+μ-loop lo hi b slots k c₀ c = slots - c
 
 loop-holds : tie.Need-loop-holds Inv-loop μ-loop
-loop-holds c = (omega arith, c .pre .0, λ d x y. absurd (omega arith))
+loop-holds c = (omega arith, c .before .before .pre .0, λ d x y. absurd (omega arith))
 
 live-requires : tie.Need-live-requires Inv-loop μ-loop
-live-requires c κs = omega (arith, c .loop-test .taken, c .before .before .pre .1)
+live-requires c κs = omega (arith, c .loop-test .taken, c .before .before .before .before .pre .1)
 
 returns : tie.Need-returns Inv-loop μ-loop
 returns c =
-    let a = c .before .before .before .before .args in
+    let a = c .before .before .before .before .before .before .args in
     let l = c .before .before .before .loop in
-    sym (from-is (liveAt (a .lo .now) (a .hi .now) (a .k)) (a .b) (a .blocks - a .b) (l .c) (l .inv .0) (omega (arith, l .inv .0, l .inv .1)) (l .inv .2) (λ t. sym (c .before .live .ensures) ∙ c .if1 .taken))
+    sym (from-is (liveAt (a .lo .now) (a .hi .now) (a .k)) (a .b) (a .slots - a .b) (l .c) (l .inv .0) (omega (arith, l .inv .0, l .inv .1)) (l .inv .2) (λ t. sym (c .before .live .ensures) ∙ c .if1 .taken))
 
 add-c : tie.Need-add-c Inv-loop μ-loop
-add-c c = omega (arith, c .before .before .loop-test .taken, c .before .before .before .before .pre .1)
+add-c c = omega (arith, c .before .before .loop-test .taken, c .before .before .before .before .before .before .pre .1)
 
 loop-less : tie.Need-loop-less Inv-loop μ-loop
 loop-less c = omega (arith, c .before .before .loop-test .taken)
 
 loop-again : tie.Need-loop-again Inv-loop μ-loop
 loop-again c =
-    let a = c .before .before .before .before .args in
+    let a = c .before .before .before .before .before .before .args in
     let l = c .before .before .before .loop in (
       omega (arith, l .inv .0),
       omega (arith, c .before .before .loop-test .taken),
@@ -53,9 +53,9 @@ loop-again c =
 
 returns-2 : tie.Need-returns-2 Inv-loop μ-loop
 returns-2 c =
-    let a = c .before .before .args in
+    let a = c .before .before .before .before .args in
     let l = c .before .loop in
-    sym (from-is (liveAt (a .lo .now) (a .hi .now) (a .k)) (a .b) (a .blocks - a .b) (l .c) (l .inv .0) (omega (arith, l .inv .0, l .inv .1)) (l .inv .2) (λ t. absurd (omega (arith, c .loop-test .left, l .inv .0))))
+    sym (from-is (liveAt (a .lo .now) (a .hi .now) (a .k)) (a .b) (a .slots - a .b) (l .c) (l .inv .0) (omega (arith, l .inv .0, l .inv .1)) (l .inv .2) (λ t. absurd (omega (arith, c .loop-test .left, l .inv .0))))
 
 pub scan-live-spec : {M : Type 1} → statement M
 scan-live-spec =

@@ -1,0 +1,22 @@
+-- `trace::bounds::reach_of` meets its contract, by whether bounds are shared. Assumes nothing.
+use mathlib.Core.Path.{sym}
+use Prim.Native.Nat.{_*_}
+use borrow.Author.Needs.{needs}
+use Rattle.trace.proofs.Slots.{when-true, when-false}
+use Rattle.trace.proofs.bounds.reach_of.Statement.{statement}
+use Rattle.trace.proofs.bounds.reach_of.Tie as tie
+
+mul-result : tie.Need-mul-result
+mul-result c = search needs
+
+returns : tie.Need-returns
+returns c = sym (when-true (c .before .args .four) (c .if1 .taken) (256 * c .before .args .n) (64 * c .before .args .n))
+
+mul-result-2 : tie.Need-mul-result-2
+mul-result-2 c = search needs
+
+returns-2 : tie.Need-returns-2
+returns-2 c = sym (when-false (c .before .args .four) (c .if1 .left) (256 * c .before .args .n) (64 * c .before .args .n))
+
+pub reach-of-spec : {M : Type 1} → statement M
+reach-of-spec = tie.close (tie.spec mul-result returns mul-result-2 returns-2)

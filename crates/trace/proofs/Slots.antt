@@ -1,5 +1,5 @@
 -- Slots: where the bounds of blocks stand, how far they reach, and the least and the greatest of their samples. Assumes nothing.
--- Main laws: `drop-later` what is the same from a place on; `reach-up`, `reach-few`, `reach-back` how far slots reach; `when-true`, `when-false` one or the other; `of-four`, `of-own` by whether bounds are shared; `slot-around`, `slots-within`, `slot-next`, `slot-at` the slots of a block, of whole blocks, of the next one,
+-- Main laws: `drop-later` what is the same from a place on; `reach-up`, `reach-few`, `reach-back` how far slots reach; `when-true`, `when-false` one or the other; `reach-four`, `reach-own`, `of-four`, `of-own` by whether bounds are shared; `slot-around`, `slots-within`, `slot-next`, `slot-at` the slots of a block, of whole blocks, of the next one,
 --   and of a place; `bound-none`, `bound-more` one sample more; `bounds-none`, `bounds-more` one slot more; `low-under`, `high-over` they are bounds.
 use mathlib.Core.Path.{_≡_, refl, ap, subst, _∙_, sym}
 use mathlib.Core.Bool.{Bool, true, false, cond}
@@ -9,19 +9,11 @@ use native.Mathlib.Numerals.{add-one}
 use native.Mathlib.Omega.{arith}
 use lib.Dec.{eqb}
 use lib.ListN.{length, getD, set, drop}
-use lib.Seq.{getD-set-same, getD-set-other, drop-drop}
+use lib.Seq.{drop-drop}
 use borrow.Author.Tests.{eqb-true, eqb-false}
 use Rattle.tally.proofs.Test.{by-test, no}
+use Rattle.count.proofs.Rows.{stored}
 use Rattle.trace.specs.Search.{slot, reach, span, further, boundOf, Bounds}
-
--- what holds of each slot below b and of what is stored at b holds of each below b + 1
-stored : (Q : ℕ → ℕ → Type 0) (l : List ℕ) (b v : ℕ) → b < length l → ((c : ℕ) → c < b → Q c (getD l c 0)) → Q b v → (c : ℕ) → c < b + 1 → Q c (getD (set l b v) c 0)
-stored Q l b v h q t c u =
-    by-test (eqb c b)
-    (λ e.
-    let s : c ≡ b = eqb-true c b e in
-    rw (s, getD-set-same l b v 0 h) t)
-    (λ e. rw (getD-set-other l b c v 0 (eqb-false c b e)) (q c (omega (arith, eqb-false c b e))))
 
 -- what is the same from a on is so from a later place on
 pub drop-later : (x y : List ℕ) (a e : ℕ) → a ≤ e → drop a x ≡ drop a y → drop e x ≡ drop e y
@@ -53,6 +45,12 @@ when-true false e x y = no e refl
 pub when-false : (t : Bool) → t ≡ false → (x y : ℕ) → cond t x y ≡ y
 when-false true e x y = no refl e
 when-false false e x y = refl
+
+pub reach-four : (four : Bool) → four ≡ true → (n : ℕ) → reach four n ≡ 256 * n
+reach-four four t n = when-true four t (256 * n) (64 * n)
+
+pub reach-own : (four : Bool) → four ≡ false → (n : ℕ) → reach four n ≡ 64 * n
+reach-own four t n = when-false four t (256 * n) (64 * n)
 
 pub of-four : (f : ℕ → ℕ → ℕ) (four : Bool) → four ≡ true → (x x′ y y′ : ℕ) → f x y ≡ f (cond four x x′) (cond four y y′)
 of-four f true t x x′ y y′ = refl

@@ -2,7 +2,7 @@
 use mathlib.Core.Path.{sym}
 use Prim.Native.Nat.{_*_}
 use borrow.Author.Needs.{needs}
-use Rattle.trace.proofs.Slots.{when-true, when-false}
+use Rattle.trace.proofs.Slots.{reach-four, reach-own}
 use Rattle.trace.proofs.bounds.reach_of.Statement.{statement}
 use Rattle.trace.proofs.bounds.reach_of.Tie as tie
 
@@ -10,13 +10,13 @@ mul-result : tie.Need-mul-result
 mul-result c = search needs
 
 returns : tie.Need-returns
-returns c = sym (when-true (c .before .args .four) (c .if1 .taken) (256 * c .before .args .n) (64 * c .before .args .n))
+returns c = sym (reach-four (c .before .args .four) (c .if1 .taken) (c .before .args .n))
 
 mul-result-2 : tie.Need-mul-result-2
 mul-result-2 c = search needs
 
 returns-2 : tie.Need-returns-2
-returns-2 c = sym (when-false (c .before .args .four) (c .if1 .left) (256 * c .before .args .n) (64 * c .before .args .n))
+returns-2 c = sym (reach-own (c .before .args .four) (c .if1 .left) (c .before .args .n))
 
 pub reach-of-spec : {M : Type 1} → statement M
 reach-of-spec = tie.close (tie.spec mul-result returns mul-result-2 returns-2)

@@ -3,34 +3,34 @@ use mathlib.Core.Path.{_≡_, refl, ap, _∙_}
 use Prim.Native.Nat.{ℕ, _+_, _*_, _≤_, _<_, max}
 use native.Mathlib.Omega.{arith}
 use Rattle.trace.specs.Search.{firstOr}
-use Rattle.trace.proofs.Slots.{when-true, when-false, of-four, of-own}
+use Rattle.trace.proofs.Slots.{reach-four, reach-own, of-four, of-own}
 use Rattle.trace.proofs.Blocks.{stale-on, or-found, or-none, or-skip}
 use Rattle.trace.proofs.search.in_slot.Statement.{statement}
 use Rattle.trace.proofs.search.in_slot.Tie as tie
 
 mul-later : tie.Need-mul-later
-mul-later c = omega (arith, c .before .before .before .pre .0, c .before .before .before .pre .2, when-true (c .before .before .before .args .four) (c .if1 .taken) (256 * (c .before .before .before .args .c + 1)) (64 * (c .before .before .before .args .c + 1)))
+mul-later c = omega (arith, c .before .before .before .pre .0, c .before .before .before .pre .2, reach-four (c .before .before .before .args .four) (c .if1 .taken) (c .before .before .before .args .c + 1))
 
 later-requires : tie.Need-later-requires
 later-requires c κs = tt
 
 mul-in-blocks : tie.Need-mul-in-blocks
-mul-in-blocks c = omega (arith, c .before .before .before .before .pre .0, c .before .before .before .before .pre .2, when-true (c .before .before .before .before .args .four) (c .before .if1 .taken) (256 * (c .before .before .before .before .args .c + 1)) (64 * (c .before .before .before .before .args .c + 1)))
+mul-in-blocks c = omega (arith, c .before .before .before .before .pre .0, c .before .before .before .before .pre .2, reach-four (c .before .before .before .before .args .four) (c .before .if1 .taken) (c .before .before .before .before .args .c + 1))
 
 add-in-blocks : tie.Need-add-in-blocks
-add-in-blocks c = omega (arith, c .before .before .before .before .pre .0, c .before .before .before .before .pre .2, when-true (c .before .before .before .before .args .four) (c .before .if1 .taken) (256 * (c .before .before .before .before .args .c + 1)) (64 * (c .before .before .before .before .args .c + 1)))
+add-in-blocks c = omega (arith, c .before .before .before .before .pre .0, c .before .before .before .before .pre .2, reach-four (c .before .before .before .before .args .four) (c .before .if1 .taken) (c .before .before .before .before .args .c + 1))
 
 in-blocks-requires : tie.Need-in-blocks-requires
 in-blocks-requires c κs =
     let p = c .before .before .before .before .pre in
-    let w = when-true (c .before .before .before .before .args .four) (c .before .if1 .taken) (256 * (c .before .before .before .before .args .c + 1)) (64 * (c .before .before .before .before .args .c + 1)) in
+    let w = reach-four (c .before .before .before .before .args .four) (c .before .if1 .taken) (c .before .before .before .before .args .c + 1) in
     (omega (arith, c .later .ensures, w, p .5), omega (arith, w, p .0), omega (arith, w, p .1), p .2, p .3)
 
 returns : tie.Need-returns
 returns c =
     let a = c .before .before .before .before .before .args in
     let p = c .before .before .before .before .before .pre in
-    let w = when-true (a .four) (c .before .before .if1 .taken) (256 * (a .c + 1)) (64 * (a .c + 1)) in
+    let w = reach-four (a .four) (c .before .before .if1 .taken) (a .c + 1) in
     let e : 64 * (4 * a .c + 4) ≡ 256 * (a .c + 1) = omega arith in
     c .in-blocks .ensures
     ∙ ap (λ (z : ℕ). firstOr (a .px .now) (a .work .now) (a .k) (64 * c .before .later .result) z (a .end)) e
@@ -38,22 +38,22 @@ returns c =
     ∙ of-four (λ x y. firstOr (a .px .now) (a .work .now) (a .k) x y (a .end)) (a .four) (c .before .before .if1 .taken) (256 * a .c) (64 * a .c) (256 * (a .c + 1)) (64 * (a .c + 1))
 
 mul-seen-in : tie.Need-mul-seen-in
-mul-seen-in c = omega (arith, c .before .before .before .pre .0, c .before .before .before .pre .2, when-false (c .before .before .before .args .four) (c .if1 .left) (256 * (c .before .before .before .args .c + 1)) (64 * (c .before .before .before .args .c + 1)))
+mul-seen-in c = omega (arith, c .before .before .before .pre .0, c .before .before .before .pre .2, reach-own (c .before .before .before .args .four) (c .if1 .left) (c .before .before .before .args .c + 1))
 
 seen-in-requires : tie.Need-seen-in-requires
 seen-in-requires c κs =
     let p = c .before .before .before .pre in
-    let w = when-false (c .before .before .before .args .four) (c .if1 .left) (256 * (c .before .before .before .args .c + 1)) (64 * (c .before .before .before .args .c + 1)) in
+    let w = reach-own (c .before .before .before .args .four) (c .if1 .left) (c .before .before .before .args .c + 1) in
     (omega (arith, w, p .0), omega (arith, w, p .1), p .2, p .3)
 
 mul-result : tie.Need-mul-result
-mul-result c = omega (arith, c .before .before .before .before .before .pre .0, c .before .before .before .before .before .pre .2, when-false (c .before .before .before .before .before .args .four) (c .before .before .if1 .left) (256 * (c .before .before .before .before .before .args .c + 1)) (64 * (c .before .before .before .before .before .args .c + 1)))
+mul-result c = omega (arith, c .before .before .before .before .before .pre .0, c .before .before .before .before .before .pre .2, reach-own (c .before .before .before .before .before .args .four) (c .before .before .if1 .left) (c .before .before .before .before .before .args .c + 1))
 
 cast-result : tie.Need-cast-result
 cast-result c = omega (arith, c .if2 .taken)
 
 add-result : tie.Need-add-result
-add-result c = omega (arith, c .if2 .taken, c .before .before .before .before .before .pre .0, c .before .before .before .before .before .pre .2, when-false (c .before .before .before .before .before .args .four) (c .before .before .if1 .left) (256 * (c .before .before .before .before .before .args .c + 1)) (64 * (c .before .before .before .before .before .args .c + 1)))
+add-result c = omega (arith, c .if2 .taken, c .before .before .before .before .before .pre .0, c .before .before .before .before .before .pre .2, reach-own (c .before .before .before .before .before .args .four) (c .before .before .if1 .left) (c .before .before .before .before .before .args .c + 1))
 
 returns-2 : tie.Need-returns-2
 returns-2 c =

@@ -1,6 +1,6 @@
 -- The rows of the list call one by one. Assumes nothing.
 -- Definitions: `needed` the words needed; `from3` to `from6` the rows from a number on; `Sound` what a list call that is not refused has.
--- Main laws: `at-3` to `at-6`, `at-0` the verdict where a row is the first that is given, or none is; `sound`, `accepted` what a verdict of 0 says.
+-- Main laws: `at-3` to `at-6`, `at-0` the verdict where a row is the first that is given, or none is; `sound`, `accepted` what a verdict of 0 says; `refused-words`, `accepted-words` the words of the answer; `none`, `empty-answer` a list of no words.
 use mathlib.Core.Path.{_≡_, refl, sym, ap, _∙_}
 use mathlib.Core.Bool.{Bool, true, false}
 use mathlib.Core.List.{List, [], _∷_}
@@ -9,15 +9,27 @@ use native.Mathlib.Omega.{arith}
 use lib.Dec.{ltb}
 use lib.ListN.{length}
 use borrow.Author.Tests.{lt-ltb, le-ltb, ltb-false}
+use Rattle.tally.specs.Tally.{tally}
+use Rattle.matte.specs.declared.Answer.{Answer}
 use Rattle.matte.specs.declared.Verdict.{Verdict}
 use Rattle.matte.specs.Layout.{Layout}
 use Rattle.matte.specs.Picture.{Picture, size, levelsFit, borderFits}
 use Rattle.matte.specs.Refusal.{Row, verdict, levelsRow, borderRow, workRow, wordsRow}
-use Rattle.matte.proofs.Rows.{given, passed, fit, unfit, clean, clean-fit}
+use Rattle.matte.proofs.Rows.{given, passed, fit, unfit, clean, clean-fit, done-answer, refused-answer}
+use Rattle.edgel.specs.Word.{flagged}
 use Rattle.refuse.specs.Shape.{Sides, shapeNumber}
 use Rattle.refuse.proofs.Sides.{shape-pass, shape-clean, shape-sides, shape-length}
-use Rattle.outline.specs.List.{listed, listVerdict}
+use Rattle.outline.specs.List.{listed, listVerdict, listAnswer}
 use Rattle.refuse.specs.Shape.{Ground}
+
+-- a list of no words
+pub none : (l : List ℕ) → length l ≡ 0 → l ≡ []
+none [] e = refl
+none (x ∷ l) e = absurd (omega arith)
+
+pub empty-answer : (L : Layout) (l : List ℕ) → l ≡ [] → _≡_ {A = Answer} (record { number = 0; place = 0; words = 0; lines = 0 }) (record { number = 0; place = 0; words = length l; lines = tally (flagged L) l })
+unfolding tally
+empty-answer L l e = rw e refl
 
 module _ (L : Layout) (P : Picture) (ks work out : List ℕ) where
   abbrev pub needed : ℕ
@@ -86,3 +98,10 @@ module _ (L : Layout) (P : Picture) (ks work out : List ℕ) where
   -- the same of the verdict that was found
   pub accepted : (v : Verdict) → v ≡ listVerdict L P ks work out → v .number ≡ 0 → Sound
   accepted v e z = sound (ap (λ (y : Verdict). y .number) (sym e) ∙ z)
+
+  -- the words that a call answers with
+  pub refused-words : (v : Verdict) → v ≡ listVerdict L P ks work out → (v .number ≡ 0 → ⊥) → 0 ≡ listAnswer L P ks work out .words
+  refused-words v e h = ap (λ (a : Answer). a .words) (sym (refused-answer (listVerdict L P ks work out) needed (tally (flagged L) (listed L P ks)) (λ z. h (ap (λ (y : Verdict). y .number) e ∙ z))))
+
+  pub accepted-words : (v : Verdict) → v ≡ listVerdict L P ks work out → v .number ≡ 0 → listAnswer L P ks work out .words ≡ needed
+  accepted-words v e h = ap (λ (a : Answer). a .words) (done-answer (listVerdict L P ks work out) needed (tally (flagged L) (listed L P ks)) (ap (λ (y : Verdict). y .number) (sym e) ∙ h))

@@ -37,7 +37,62 @@ pub fn clear(work: &mut [u8], n: usize)
     }
 }
 
-// The first of the refusals 1 to 6 that applies, by the lengths of the lent memory.
+// The first refusal that applies, with its place, and the words of a list that is not refused.
+struct Checked {
+    number: u32,
+    place: usize,
+    words: usize,
+}
+
+// The first of the refusals 1 to 6 that applies, by the lengths of the lent memory, and how many words there are if none does.
+fn list_check(w: usize, h: usize, px: &[u8], levels: &[u8], work: &[u8], words: &[u32]) -> Checked
+    ensures { λ r. ⌜ (record { number = r .number; place = r .place } ≡ listVerdict eight (picture w h (now (px .entry))) (now (levels .entry)) (now (work .entry)) (now (words .entry))) × (r .words ≡ listAnswer eight (picture w h (now (px .entry))) (now (levels .entry)) (now (work .entry)) (now (words .entry)) .words) ⌝ }
+{
+    let shape = shape_number(w, h, px);
+    if shape != 0 {
+        return Checked {
+            number: shape,
+            place: 0,
+            words: 0,
+        };
+    }
+    if !levels_fit(levels) {
+        return Checked {
+            number: 3,
+            place: 0,
+            words: 0,
+        };
+    }
+    if !border_fits(w, h, px) {
+        return Checked {
+            number: 4,
+            place: 0,
+            words: 0,
+        };
+    }
+    if work.len() < px.len() {
+        return Checked {
+            number: 5,
+            place: 0,
+            words: 0,
+        };
+    }
+    let needed = count_words(px, w, h, levels);
+    if words.len() < needed {
+        return Checked {
+            number: 6,
+            place: needed,
+            words: 0,
+        };
+    }
+    Checked {
+        number: 0,
+        place: 0,
+        words: needed,
+    }
+}
+
+// The first of the refusals alone.
 pub fn list_verdict(
     w: usize,
     h: usize,
@@ -48,46 +103,15 @@ pub fn list_verdict(
 ) -> Verdict
     ensures { λ r. ⌜ r ≡ listVerdict eight (picture w h (now (px .entry))) (now (levels .entry)) (now (work .entry)) (now (words .entry)) ⌝ }
 {
-    let shape = shape_number(w, h, px);
-    if shape != 0 {
-        return Verdict {
-            number: shape,
-            place: 0,
-        };
-    }
-    if !levels_fit(levels) {
-        return Verdict {
-            number: 3,
-            place: 0,
-        };
-    }
-    if !border_fits(w, h, px) {
-        return Verdict {
-            number: 4,
-            place: 0,
-        };
-    }
-    if work.len() < px.len() {
-        return Verdict {
-            number: 5,
-            place: 0,
-        };
-    }
-    let needed = count_words(px, w, h, levels);
-    if words.len() < needed {
-        return Verdict {
-            number: 6,
-            place: needed,
-        };
-    }
+    let c = list_check(w, h, px, levels, work, words);
     Verdict {
-        number: 0,
-        place: 0,
+        number: c.number,
+        place: c.place,
     }
 }
 
-// Lists every line of every level into the lent word places, or refuses and changes nothing. Marks begin half a row into the work bytes, for speed.
-fn list_by(
+// Lists a call that is not refused. Marks begin half a row into the work bytes, for speed.
+fn list_lines(
     w: usize,
     h: usize,
     px: &[u8],
@@ -98,18 +122,9 @@ fn list_by(
     hi: &mut [u8],
     four: bool,
 ) -> Answer
-    requires { ⌜ (4194304 ≤ reach four (length (now lo))) × (4194304 ≤ reach four (length (now hi))) ⌝ }
+    requires { ⌜ (listVerdict eight (picture w h (now px)) (now levels) (now work) (now words) .number ≡ 0) × (4194304 ≤ reach four (length (now lo))) × (4194304 ≤ reach four (length (now hi))) ⌝ }
     ensures { λ r. ⌜ (r ≡ listAnswer eight (picture w h (now (px .entry))) (now (levels .entry)) (now (work .entry)) (now (words .entry))) × (now (work .exit) ≡ listWork eight (picture w h (now (px .entry))) (now (levels .entry)) (now (work .entry)) (now (words .entry))) × (now (words .exit) ≡ listWords eight (picture w h (now (px .entry))) (now (levels .entry)) (now (work .entry)) (now (words .entry))) ⌝ }
 {
-    let v = list_verdict(w, h, px, levels, work, words);
-    if v.number != 0 {
-        return Answer {
-            number: v.number,
-            place: v.place,
-            words: 0,
-            lines: 0,
-        };
-    }
     let n = area(w, h);
     clear(work, n);
     let slots = slot_of(four, (px.len() - w) / 64);
@@ -133,6 +148,42 @@ fn list_by(
         words: s.words,
         lines: s.lines,
     }
+}
+
+// Lists every line of every level into the lent word places, or refuses and changes nothing. Where nothing is crossed, there is nothing to look for.
+fn list_by(
+    w: usize,
+    h: usize,
+    px: &[u8],
+    levels: &[u8],
+    work: &mut [u8],
+    words: &mut [u32],
+    lo: &mut [u8],
+    hi: &mut [u8],
+    four: bool,
+) -> Answer
+    requires { ⌜ (4194304 ≤ reach four (length (now lo))) × (4194304 ≤ reach four (length (now hi))) ⌝ }
+    ensures { λ r. ⌜ (r ≡ listAnswer eight (picture w h (now (px .entry))) (now (levels .entry)) (now (work .entry)) (now (words .entry))) × (now (work .exit) ≡ listWork eight (picture w h (now (px .entry))) (now (levels .entry)) (now (work .entry)) (now (words .entry))) × (now (words .exit) ≡ listWords eight (picture w h (now (px .entry))) (now (levels .entry)) (now (work .entry)) (now (words .entry))) ⌝ }
+{
+    let v = list_check(w, h, px, levels, work, words);
+    if v.number != 0 {
+        return Answer {
+            number: v.number,
+            place: v.place,
+            words: 0,
+            lines: 0,
+        };
+    }
+    if v.words == 0 {
+        clear(work, area(w, h));
+        return Answer {
+            number: 0,
+            place: 0,
+            words: 0,
+            lines: 0,
+        };
+    }
+    list_lines(w, h, px, levels, work, words, lo, hi, four)
 }
 
 // The same, with bounds of 64 samples each on the stack.

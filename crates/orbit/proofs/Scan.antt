@@ -1,6 +1,6 @@
 -- A scan upwards that traces each head which is ok and not yet marked, and marks the heads of its line, lists exactly the orbits of the leads. Assumes nothing.
 -- Definitions: `Marks i m` the loop's invariant: a head that is ok is marked by m exactly if the lead of its line is below i; `scan` the scan, marks as a function.
--- Main laws: `marks-start`, `marks-tell` (not marked = leads), `marks-line` (after a line), `marks-skip` (after any other number), `marks-past` (those behind are marked);
+-- Main laws: `marks-start`, `marks-tell` (not marked = leads), `marks-line` (after a line), `marks-skip` (after any other number), `marks-past` (those behind are marked), `marks-test` (the scan's test);
 --   `scan-pick` from the invariant the scan is the walk over the leads; `scan-listing` the whole scan is the listing.
 use mathlib.Core.Path.{_≡_, refl, sym, ap, _∙_}
 use mathlib.Core.Bool.{Bool, true, false, not, _&&_, _||_}

@@ -1,9 +1,9 @@
 -- The scan by places with its marks in work bytes: what a loop over the places of a picture keeps, at one level. Assumes nothing.
 -- Definitions: `Scanned P B k i m` the places below i have been scanned: a crossed horizontal code is marked by m exactly if the lead of its line is below 2 i.
--- Main laws: `marks-begin` before the first place; `place-tell` a crossed place leads a line exactly if it is not marked; `place-skip`, `place-flat` past a place that leads none; `place-line` past
+-- Main laws: `marks-begin` before the first place; `place-tell` a crossed place leads a line exactly if it is not marked; `place-skip` past a place that leads none; `place-line` past
 --   one whose line has been marked in the bytes; `place-past` crossed places that were scanned are marked; `line-cut`, `line-low` the codes of a line are crossed, and name edgels.
-use mathlib.Core.Path.{_≡_, refl}
-use mathlib.Core.Bool.{Bool, true, false, not, _&&_}
+use mathlib.Core.Path.{_≡_}
+use mathlib.Core.Bool.{Bool, true, false, not}
 use mathlib.Core.List.{List}
 use Prim.Native.Nat.{ℕ, suc, _*_, _%_, _<_}
 use native.Mathlib.Omega.{arith}
@@ -53,17 +53,6 @@ module _ (P : Picture) (B : Border P) (k : ℕ) where
   pub lead-cut : (c : ℕ) → isLead P k c ≡ true → cutAt P k c ≡ true
   unfolding isLead
   lead-cut c e = leads-ok (closedAt P B k) horizontal (headedAt P B k) c e
-
-  pub not-lead : (c : ℕ) → cutAt P k c ≡ false → isLead P k c ≡ false
-  unfolding isLead leads
-  not-lead c e = rw e (nothing (horizontal c))
-    where
-      nothing : (b : Bool) → (b && false) ≡ false
-      nothing true = refl
-      nothing false = refl
-
-  pub place-flat : (i : ℕ) (m : ℕ → Bool) → Scanned i m → cutAt P k (2 * i) ≡ false → Scanned (suc i) m
-  place-flat i m M e = place-skip i m M (not-lead (2 * i) e)
 
   -- the codes of the line through a crossed code are crossed, and so below 2 w h
   pub line-cut : (c d : ℕ) → cutAt P k c ≡ true → 0 < count d (line P k c) → cutAt P k d ≡ true

@@ -1,23 +1,22 @@
 -- Blocks of 64 places: which of them hold no fresh place, and the first fresh place in them. Assumes nothing.
--- Definitions: `Finding` the first fresh place of a block among those looked at; `Stale` no place of a run is fresh.
--- Main laws: `dead-block` a block whose bounds do not enclose the level holds no fresh place; `any-more` one test more of many; `find-begin`, `find-go`, `find-end`, `none-in` the search inside a block; `from-over` the first past numbers that fail;
+-- Definitions: `Finding` the first fresh place of a block among those looked at.
+-- Main laws: `any-more` one test more of many; `find-begin`, `find-go`, `find-end`, `none-in` the search inside a block; `from-over` the first past numbers that fail;
 --   `stale-on` some places more that are not fresh, `stale-next` those of slots that are not live; `or-found`, `or-none`, `or-skip` the first of a run; `or-first` it is the first of all, `or-bare` or none is fresh yet.
-use mathlib.Core.Path.{_≡_, refl, sym, ap, subst, _∙_}
+use mathlib.Core.Path.{_≡_, refl, sym, ap, _∙_}
 use mathlib.Core.Bool.{Bool, true, false, not, _&&_, cond}
 use mathlib.Core.List.{List}
-use Prim.Native.Nat.{ℕ, zero, suc, _+_, _-_, _*_, _/_, _%_, _≤_, _<_, min, max}
+use Prim.Native.Nat.{ℕ, _+_, _-_, _*_, _/_, _%_, _≤_, _<_, min, max}
 use native.Mathlib.Numerals.{add-one}
 use native.Mathlib.Omega.{arith}
 use lib.Dec.{eqb, ltb, leb}
-use lib.ListN.{length, getD, set}
-use lib.Seq.{getD-set-same, getD-set-other}
+use lib.ListN.{getD}
 use borrow.Author.Tests.{eqb-true, eqb-false, leb-false, ltb-true, ltb-false, lt-ltb, le-ltb, ne-eqb, not-true}
 use Rattle.tally.specs.Tally.{one, differ, every, firstFrom}
 use Rattle.tally.proofs.Test.{by-test, no, both, differ-self}
 use Rattle.tally.proofs.First.{from-ge, from-le, from-before, from-passes, from-is}
 use Rattle.tally.proofs.Every.{every-more, every-at}
 use Rattle.trace.specs.Trace.{fresh}
-use Rattle.trace.specs.Search.{slot, reach, Bounds, Slots, liveAt, FirstIn, firstOr}
+use Rattle.trace.specs.Search.{slot, reach, Bounds, Slots, liveAt, FirstIn, Stale, firstOr}
 use Rattle.trace.proofs.Slots.{slot-at, low-under, high-over}
 
 module _ (px : List ℕ) (four : Bool) where
@@ -29,7 +28,7 @@ module _ (px : List ℕ) (four : Bool) where
   stale-if true y e = no refl e
   stale-if false y e = refl
 
-  pub dead-block : (work lo hi : List ℕ) (k b slots : ℕ) → Bounds px lo false four slots → Bounds px hi true four slots → slot four b < slots → liveAt lo hi k (slot four b) ≡ false
+  dead-block : (work lo hi : List ℕ) (k b slots : ℕ) → Bounds px lo false four slots → Bounds px hi true four slots → slot four b < slots → liveAt lo hi k (slot four b) ≡ false
       → (i : ℕ) → i < 64 → fresh px work k (64 * b + i) ≡ false
   dead-block work lo hi k b slots A Z h e i l =
       let s : 64 * b + i + 1 ≡ 64 * b + (i + 1) = omega arith in
@@ -122,11 +121,10 @@ module _ (px work : List ℕ) (k : ℕ) where
   abbrev F : ℕ → Bool
   F = fresh px work k
 
-  -- no place from a up to x is fresh
-  abbrev pub Stale : ℕ → ℕ → Type 0
-  Stale a x = (j : ℕ) → a ≤ j → j < x → F j ≡ false
+  abbrev S : ℕ → ℕ → Type 0
+  S = Stale px work k
 
-  pub stale-on : (a x n y : ℕ) → y ≡ x + n → Stale a x → ((i : ℕ) → i < n → F (x + i) ≡ false) → Stale a y
+  pub stale-on : (a x n y : ℕ) → y ≡ x + n → S a x → ((i : ℕ) → i < n → F (x + i) ≡ false) → S a y
   stale-on a x n y e z q j g h =
       by-test (ltb j x)
       (λ t. z j g (ltb-true j x t))
@@ -137,21 +135,21 @@ module _ (px work : List ℕ) (k : ℕ) where
 
   -- the first of a run that is fresh, or none
   module _ (a e end : ℕ) (h : a ≤ e) where
-    pub or-found : (x : ℕ) → a ≤ x → x < e → Stale a x → F x ≡ true → x ≡ firstOr px work k a e end
+    pub or-found : (x : ℕ) → a ≤ x → x < e → S a x → F x ≡ true → x ≡ firstOr px work k a e end
     or-found x g l z y = let s : firstFrom F a (e - a) ≡ x = from-is F a (e - a) x g (omega arith) z (λ t. y) in rw (s, lt-ltb x e l) refl
 
-    pub or-none : Stale a e → end ≡ firstOr px work k a e end
+    pub or-none : S a e → end ≡ firstOr px work k a e end
     or-none z = let s : firstFrom F a (e - a) ≡ e = from-is F a (e - a) e h (omega arith) z (λ t. absurd (omega arith)) in rw (s, le-ltb e e (omega arith)) refl
 
-    pub or-skip : (b : ℕ) → a ≤ b → b ≤ e → Stale a b → firstOr px work k b e end ≡ firstOr px work k a e end
+    pub or-skip : (b : ℕ) → a ≤ b → b ≤ e → S a b → firstOr px work k b e end ≡ firstOr px work k a e end
     or-skip b g l z = ap (λ (f : ℕ). cond (ltb f e) f end) (from-over F a b e g l z)
 
-    module _ (r : ℕ) (l : e ≤ end) (s : r ≡ firstOr px work k a e end) (z : Stale 0 a) where
+    module _ (r : ℕ) (l : e ≤ end) (s : r ≡ firstOr px work k a e end) (z : S 0 a) where
       abbrev f : ℕ
       f = firstFrom F a (e - a)
 
       -- found, it is the first of all
-      pub or-first : (from : ℕ) → ((j : ℕ) → j < from → F j ≡ false) → r < end → r ≡ firstFrom F from (end - from)
+      pub or-first : (from : ℕ) → S 0 from → r < end → r ≡ firstFrom F from (end - from)
       or-first from q u =
           by-test (ltb f e)
           (λ t.
@@ -159,7 +157,7 @@ module _ (px work : List ℕ) (k : ℕ) where
           let d = ltb-true f e t in
           let y : F f ≡ true = from-passes F a (e - a) (omega (arith, h)) in
           by-test (ltb f from)
-          (λ x. no y (q f (ltb-true f from x)))
+          (λ x. no y (q f (omega arith) (ltb-true f from x)))
           (λ x. v
           ∙ sym
           (from-is F from (end - from) f (ltb-false f from x) (omega (arith, ltb-false f from x))
@@ -169,7 +167,7 @@ module _ (px work : List ℕ) (k : ℕ) where
           (λ w. y))))
           (λ t. let v : r ≡ end = s ∙ ap (λ (b : Bool). cond b f end) t in absurd (omega arith))
 
-      pub or-bare : end ≤ r → Stale 0 e
+      pub or-bare : end ≤ r → S 0 e
       or-bare u =
           by-test (ltb f e)
           (λ t.
@@ -180,7 +178,7 @@ module _ (px work : List ℕ) (k : ℕ) where
           (λ w. from-before F a (e - a) j (ltb-false j a w) (omega (arith, ltb-false f e t))))
 
   -- over the slots that are not live
-  pub stale-next : (lo hi : List ℕ) (four : Bool) (slots : ℕ) → Slots px lo hi four slots → (c r : ℕ) → r ≤ slots → r ≤ firstFrom (liveAt lo hi k) c (slots - c) → Stale 0 (reach four c) → Stale 0 (reach four r)
+  pub stale-next : (lo hi : List ℕ) (four : Bool) (slots : ℕ) → Slots px lo hi four slots → (c r : ℕ) → r ≤ slots → r ≤ firstFrom (liveAt lo hi k) c (slots - c) → S 0 (reach four c) → S 0 (reach four r)
   stale-next lo hi four slots B c r h e z j g y =
       by-test (ltb j (reach four c))
       (λ t. z j g (ltb-true j (reach four c) t))

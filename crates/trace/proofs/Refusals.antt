@@ -2,11 +2,10 @@
 -- Definitions: `needed` the words needed; `from3` to `from6` the rows from a number on; `Sound` what a list call that is not refused has.
 -- Main laws: `at-3` to `at-6`, `at-0` the verdict where a row is the first that is given, or none is; `sound`, `accepted` what a verdict of 0 says; `refused-words`, `accepted-words` the words of the answer; `none`, `empty-answer` a list of no words.
 use mathlib.Core.Path.{_≡_, refl, sym, ap, _∙_}
-use mathlib.Core.Bool.{Bool, true, false}
+use mathlib.Core.Bool.{true, false}
 use mathlib.Core.List.{List, [], _∷_}
-use Prim.Native.Nat.{ℕ, _*_, _≤_, _<_}
+use Prim.Native.Nat.{ℕ, _≤_, _<_}
 use native.Mathlib.Omega.{arith}
-use lib.Dec.{ltb}
 use lib.ListN.{length}
 use borrow.Author.Tests.{lt-ltb, le-ltb, ltb-false}
 use Rattle.tally.specs.Tally.{tally}
@@ -17,7 +16,7 @@ use Rattle.matte.specs.Picture.{Picture, size, levelsFit, borderFits}
 use Rattle.matte.specs.Refusal.{Row, verdict, levelsRow, borderRow, workRow, wordsRow}
 use Rattle.matte.proofs.Rows.{given, passed, fit, unfit, clean, clean-fit, done-answer, refused-answer}
 use Rattle.edgel.specs.Word.{flagged}
-use Rattle.refuse.specs.Shape.{Sides, shapeNumber}
+use Rattle.refuse.specs.Shape.{shapeNumber}
 use Rattle.refuse.proofs.Sides.{shape-pass, shape-clean, shape-sides, shape-length}
 use Rattle.outline.specs.List.{listed, listVerdict, listAnswer}
 use Rattle.refuse.specs.Shape.{Ground}

@@ -1,6 +1,6 @@
 -- Places of one level that are fresh, and those that are not. Assumes nothing.
 -- Definitions: `own` the byte is the level's mark; `Stand` what is unchanged at a later place.
--- Main laws: `length-pasted`, `paste-on` pasting behind what was pasted; `own-self`, `own-not`; `fresh-lead` a fresh place leads, `stale` one that
+-- Main laws: `paste-on` pasting behind what was pasted; `own-self`, `own-not`; `fresh-lead` a fresh place leads, `stale` one that
 --   is not fresh does not; `passed` no place behind is fresh; `over` from a place over those that are not fresh.
 use mathlib.Core.Path.{_≡_, refl, sym, ap, _∙_}
 use mathlib.Core.Bool.{Bool, true, false, not}
@@ -26,11 +26,6 @@ use Rattle.trace.specs.Trace.{pasted, fresh}
 use Rattle.count.proofs.Flat.{border-of, crossed-cut, cut-crossed}
 
 -- ---- pasting
-pub length-pasted : (d : List ℕ) (n : ℕ) (f : List ℕ) → n + length f ≤ length d → length (pasted d n f) ≡ length d
-length-pasted d n f h =
-    let a : length (take n d ++ f) ≡ n + length f = length-append (take n d) f ∙ ap (λ (z : ℕ). z + length f) (length-take-le n d (omega arith)) in
-    omega (arith, length-append (take n d ++ f) (drop (n + length f) d), lib.ListN.length-drop (n + length f) d)
-
 pub paste-on : (d : List ℕ) (n m : ℕ) (f g : List ℕ) → m ≡ n + length f → m ≤ length d → pasted (pasted d n f) m g ≡ pasted d n (f ++ g)
 paste-on d n m f g e h =
     let a : length (take n d ++ f) ≡ m = length-append (take n d) f ∙ ap (λ (z : ℕ). z + length f) (length-take-le n d (omega arith)) ∙ sym e in

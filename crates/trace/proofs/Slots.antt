@@ -1,25 +1,18 @@
 -- Slots: where the bounds of blocks stand, how far they reach, and the least and the greatest of their samples. Assumes nothing.
--- Main laws: `drop-later` what is the same from a place on; `reach-up`, `reach-few`, `reach-back` how far slots reach; `when-true`, `when-false` one or the other; `reach-four`, `reach-own`, `of-four`, `of-own` by whether bounds are shared; `slot-around`, `slots-within`, `slot-next`, `slot-at` the slots of a block, of whole blocks, of the next one,
+-- Main laws: `reach-up`, `reach-few`, `reach-back` how far slots reach; `when-true`, `when-false` one or the other; `reach-four`, `reach-own`, `of-four`, `of-own` by whether bounds are shared; `slot-around`, `slots-within`, `slot-next`, `slot-at` the slots of a block, of whole blocks, of the next one,
 --   and of a place; `bound-none`, `bound-more` one sample more; `bounds-none`, `bounds-more` one slot more; `low-under`, `high-over` they are bounds.
-use mathlib.Core.Path.{_≡_, refl, ap, subst, _∙_, sym}
+use mathlib.Core.Path.{_≡_, refl, ap, subst}
 use mathlib.Core.Bool.{Bool, true, false, cond}
 use mathlib.Core.List.{List}
 use Prim.Native.Nat.{ℕ, zero, suc, _+_, _-_, _*_, _/_, _≤_, _<_}
 use native.Mathlib.Numerals.{add-one}
 use native.Mathlib.Omega.{arith}
 use lib.Dec.{eqb}
-use lib.ListN.{length, getD, set, drop}
-use lib.Seq.{drop-drop}
+use lib.ListN.{length, getD, set}
 use borrow.Author.Tests.{eqb-true, eqb-false}
 use Rattle.tally.proofs.Test.{by-test, no}
 use Rattle.count.proofs.Rows.{stored}
 use Rattle.trace.specs.Search.{slot, reach, span, further, boundOf, Bounds}
-
--- what is the same from a on is so from a later place on
-pub drop-later : (x y : List ℕ) (a e : ℕ) → a ≤ e → drop a x ≡ drop a y → drop e x ≡ drop e y
-drop-later x y a e h q =
-    let s : a + (e - a) ≡ e = omega arith in
-    ap (λ (n : ℕ). drop n x) (sym s) ∙ sym (drop-drop (e - a) a x) ∙ ap (drop (e - a)) q ∙ drop-drop (e - a) a y ∙ ap (λ (n : ℕ). drop n y) s
 
 -- ---- slots
 -- more slots reach further

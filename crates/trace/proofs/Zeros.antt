@@ -1,11 +1,18 @@
 -- Work bytes set to zero from the front, and the part of them that begins some bytes on. Assumes nothing.
--- Main laws: `cleared-at` each is 0; `cleared-length`, `cleared-rest` the length and the rest are as they were; `part-length`, `part-at` that part's length and bytes; `part-back` bytes past the changed ones are as they were.
+-- Main laws: `drop-later` what is the same from a place on; `cleared-at` each is 0; `cleared-length`, `cleared-rest` the length and the rest are as they were; `part-length`, `part-at` that part's length and bytes; `part-back` bytes past the changed ones are as they were.
 use mathlib.Core.Path.{_≡_, sym, ap, _∙_}
 use mathlib.Core.List.{List, _++_}
 use Prim.Native.Nat.{ℕ, _+_, _-_, _≤_, _<_}
 use native.Mathlib.Omega.{arith}
 use lib.ListN.{length, take, drop, getD, replicate, length-append, length-drop, length-replicate, getD-replicate, take-append-drop, List·getD-append}
 use lib.Seq.{take-all, length-take-le, getD-drop, drop-at, drop-drop, drop-append-add, drop-append-le}
+
+-- what is the same from a on is so from any later place on
+pub drop-later : (x y : List ℕ) (a e : ℕ) → a ≤ e → drop a x ≡ drop a y → drop e x ≡ drop e y
+drop-later x y a e h q =
+    let s : a + (e - a) ≡ e = omega arith in
+    let c : (z : List ℕ) → drop e z ≡ drop (e - a) (drop a z) = λ z. ap (λ (n : ℕ). drop n z) (sym s) ∙ sym (drop-drop (e - a) a z) in
+    c x ∙ ap (drop (e - a)) q ∙ sym (c y)
 
 module _ (n : ℕ) (work : List ℕ) where
   abbrev zeros : List ℕ
@@ -49,6 +56,4 @@ module _ (s : ℕ) (work : List ℕ) (h : s ≤ length work) where
       ∙ sym (drop-append-le u part r l)
       ∙ ap (drop u) (take-append-drop (length work - s) (drop s work))
       ∙ drop-drop u s work in
-      let f : s + u + (m - (s + u)) ≡ m = omega arith in
-      let c : (z : List ℕ) → drop m z ≡ drop (m - (s + u)) (drop (s + u) z) = λ z. ap (λ (y : ℕ). drop y z) (sym f) ∙ sym (drop-drop (m - (s + u)) (s + u) z) in
-      c back ∙ ap (drop (m - (s + u))) d ∙ sym (c work)
+      drop-later back work (s + u) m (omega arith) d

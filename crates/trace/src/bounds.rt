@@ -26,7 +26,7 @@ pub fn slot_of(four: bool, b: usize) -> usize
     if four { b / 4 } else { b }
 }
 
-// The samples that the first n slots tell of.
+// How many places lie in the first n slots.
 pub fn reach_of(four: bool, n: usize) -> usize
     requires { ⌜ n ≤ 65536 ⌝ }
     ensures { λ r. ⌜ r ≡ reach four n ⌝ }
@@ -87,7 +87,7 @@ fn bound_each(px: &[u8], top: bool, out: &mut [u8], four: bool, a: usize, e: usi
 // Where the piece of at most 256 slots from a on ends.
 fn piece_end(a: usize, slots: usize) -> usize
     requires { ⌜ (a < slots) × (slots ≤ 65536) ⌝ }
-    ensures { λ r. ⌜ (a < r) × (r ≤ slots) × (r ≤ a + 256) ⌝ }
+    ensures { λ r. ⌜ r ≡ min (a + 256) slots ⌝ }
 {
     if a + 256 < slots {
         return a + 256;

@@ -122,7 +122,7 @@ fn list_lines(
     hi: &mut [u8],
     four: bool,
 ) -> Answer
-    requires { ⌜ (listVerdict eight (picture w h (now px)) (now levels) (now work) (now words) .number ≡ 0) × (4194304 ≤ reach four (length (now lo))) × (4194304 ≤ reach four (length (now hi))) ⌝ }
+    requires { ⌜ (listVerdict eight (picture w h (now px)) (now levels) (now work) (now words) .number ≡ 0) × (reach four (length (now lo)) ≡ 4194304) × (reach four (length (now hi)) ≡ 4194304) ⌝ }
     ensures { λ r. ⌜ (r ≡ listAnswer eight (picture w h (now (px .entry))) (now (levels .entry)) (now (work .entry)) (now (words .entry))) × (now (work .exit) ≡ listWork eight (picture w h (now (px .entry))) (now (levels .entry)) (now (work .entry)) (now (words .entry))) × (now (words .exit) ≡ listWords eight (picture w h (now (px .entry))) (now (levels .entry)) (now (work .entry)) (now (words .entry))) ⌝ }
 {
     let n = area(w, h);
@@ -162,7 +162,7 @@ fn list_by(
     hi: &mut [u8],
     four: bool,
 ) -> Answer
-    requires { ⌜ (4194304 ≤ reach four (length (now lo))) × (4194304 ≤ reach four (length (now hi))) ⌝ }
+    requires { ⌜ (reach four (length (now lo)) ≡ 4194304) × (reach four (length (now hi)) ≡ 4194304) ⌝ }
     ensures { λ r. ⌜ (r ≡ listAnswer eight (picture w h (now (px .entry))) (now (levels .entry)) (now (work .entry)) (now (words .entry))) × (now (work .exit) ≡ listWork eight (picture w h (now (px .entry))) (now (levels .entry)) (now (work .entry)) (now (words .entry))) × (now (words .exit) ≡ listWords eight (picture w h (now (px .entry))) (now (levels .entry)) (now (work .entry)) (now (words .entry))) ⌝ }
 {
     let v = list_check(w, h, px, levels, work, words);

@@ -5,13 +5,13 @@ use crate::bounds::reach_of;
 use crate::bounds::slot_of;
 use count::one_if;
 ghost use mathlib.Core.Path.{_≡_};
-ghost use mathlib.Core.Bool.{false, not, _&&_, cond};
-ghost use Prim.Native.Nat.{ℕ, _+_, _-_, _*_, _≤_, _<_, max};
+ghost use mathlib.Core.Bool.{not, _&&_, cond};
+ghost use Prim.Native.Nat.{_+_, _-_, _*_, _≤_, _<_, max};
 ghost use lib.Dec.{eqb, ltb};
 ghost use lib.ListN.{length};
 ghost use Rattle.tally.specs.Tally.{differ, every, firstFrom};
 ghost use Rattle.trace.specs.Trace.{fresh};
-ghost use Rattle.trace.specs.Search.{slot, reach, Slots, liveAt, FirstIn, firstOr};
+ghost use Rattle.trace.specs.Search.{reach, Slots, liveAt, FirstIn, Stale, firstOr};
 
 // The horizontal edgel between samples a and b is crossed at k, and its byte m is not the level's mark.
 fn is_fresh(a: u8, b: u8, m: u8, k: u8, mark: u8) -> bool
@@ -92,12 +92,12 @@ fn live16(lo: &[u8], hi: &[u8], c: usize, k: u8) -> bool
     any != 0
 }
 
-// The first live slot from b on, or `slots`, one by one.
-fn scan_live(lo: &[u8], hi: &[u8], b: usize, slots: usize, k: u8) -> usize
-    requires { ⌜ (b ≤ slots) × (slots ≤ length (now lo)) × (slots ≤ length (now hi)) ⌝ }
-    ensures { λ r. ⌜ r ≡ firstFrom (liveAt (now (lo .entry)) (now (hi .entry)) k) b (slots - b) ⌝ }
+// The first live slot from `from` on, or `slots`, one by one.
+fn scan_live(lo: &[u8], hi: &[u8], from: usize, slots: usize, k: u8) -> usize
+    requires { ⌜ (from ≤ slots) × (slots ≤ length (now lo)) × (slots ≤ length (now hi)) ⌝ }
+    ensures { λ r. ⌜ r ≡ firstFrom (liveAt (now (lo .entry)) (now (hi .entry)) k) from (slots - from) ⌝ }
 {
-    let mut c = b;
+    let mut c = from;
     while c < slots {
         if live(lo, hi, c, k) {
             return c;
@@ -108,11 +108,11 @@ fn scan_live(lo: &[u8], hi: &[u8], b: usize, slots: usize, k: u8) -> usize
 }
 
 // The same, 16 slots at a time.
-fn next_live(lo: &[u8], hi: &[u8], b: usize, slots: usize, k: u8) -> usize
-    requires { ⌜ (b ≤ slots) × (slots ≤ 65536) × (slots ≤ length (now lo)) × (slots ≤ length (now hi)) ⌝ }
-    ensures { λ r. ⌜ r ≡ firstFrom (liveAt (now (lo .entry)) (now (hi .entry)) k) b (slots - b) ⌝ }
+fn next_live(lo: &[u8], hi: &[u8], from: usize, slots: usize, k: u8) -> usize
+    requires { ⌜ (from ≤ slots) × (slots ≤ 65536) × (slots ≤ length (now lo)) × (slots ≤ length (now hi)) ⌝ }
+    ensures { λ r. ⌜ r ≡ firstFrom (liveAt (now (lo .entry)) (now (hi .entry)) k) from (slots - from) ⌝ }
 {
-    let mut c = b;
+    let mut c = from;
     while c + 16 <= slots {
         if live16(lo, hi, c, k) {
             return scan_live(lo, hi, c, slots, k);
@@ -120,6 +120,13 @@ fn next_live(lo: &[u8], hi: &[u8], b: usize, slots: usize, k: u8) -> usize
         c += 16;
     }
     scan_live(lo, hi, c, slots, k)
+}
+
+// The later of two blocks.
+fn later(a: usize, b: usize) -> usize
+    ensures { λ r. ⌜ r ≡ max a b ⌝ }
+{
+    if a < b { b } else { a }
 }
 
 // The first fresh place of the blocks from b up to e, or `end` with none.
@@ -138,13 +145,6 @@ fn in_blocks(px: &[u8], work: &[u8], b: usize, e: usize, end: usize, k: u8, mark
     end
 }
 
-// The later of two blocks.
-fn later(a: usize, b: usize) -> usize
-    ensures { λ r. ⌜ r ≡ max a b ⌝ }
-{
-    if a < b { b } else { a }
-}
-
 // The same of the slot c, where no place before block b is fresh.
 fn in_slot(
     px: &[u8],
@@ -156,17 +156,13 @@ fn in_slot(
     k: u8,
     mark: u8,
 ) -> usize
-    requires { ⌜ (reach four (c + 1) < length (now px)) × (reach four (c + 1) ≤ length (now work)) × (length (now px) ≤ 4194304) × (mark ≡ k + 1) × ((j : ℕ) → j < 64 * b → fresh (now px) (now work) k j ≡ false) × (64 * b ≤ reach four (c + 1)) ⌝ }
+    requires { ⌜ (reach four (c + 1) < length (now px)) × (reach four (c + 1) ≤ length (now work)) × (length (now px) ≤ 4194304) × (mark ≡ k + 1) × (Stale (now px) (now work) k 0 (64 * b)) × (64 * b ≤ reach four (c + 1)) ⌝ }
     ensures { λ r. ⌜ r ≡ firstOr (now (px .entry)) (now (work .entry)) k (reach four c) (reach four (c + 1)) end ⌝ }
 {
     if four {
         return in_blocks(px, work, later(b, 4 * c), 4 * c + 4, end, k, mark);
     }
-    let i = seen_in(px, work, 64 * c, k, mark);
-    if i < 64 {
-        return 64 * c + i as usize;
-    }
-    end
+    in_blocks(px, work, c, c + 1, end, k, mark)
 }
 
 // The first fresh place from `from` on and before `end`, or `end`, one by one.
@@ -197,7 +193,7 @@ pub fn search(
     from: usize,
     end: usize,
 ) -> usize
-    requires { ⌜ (from ≤ end) × (end < length (now px)) × (end ≤ length (now work)) × (k < 255) × (reach four slots ≤ end) × (Slots (now px) (now lo) (now hi) four slots) × ((j : ℕ) → j < from → fresh (now px) (now work) k j ≡ false) ⌝ }
+    requires { ⌜ (from ≤ end) × (end < length (now px)) × (end ≤ length (now work)) × (k < 255) × (reach four slots ≤ end) × (Slots (now px) (now lo) (now hi) four slots) × (Stale (now px) (now work) k 0 from) ⌝ }
     ensures { λ r. ⌜ r ≡ firstFrom (fresh (now (px .entry)) (now (work .entry)) k) from (end - from) ⌝ }
 {
     let mark = k + 1;

@@ -9,7 +9,7 @@ use Prim.Native.Nat.{ℕ, _+_, _-_, _*_, _≤_, _<_}
 use native.Mathlib.Omega.{arith}
 use lib.Dec.{eqb, ltb}
 use lib.ListN.{length, take, drop, getD, length-append, length-drop}
-use lib.Seq.{length-take-le, drop-cons, drop-at, drop-drop}
+use lib.Seq.{length-take-le, drop-cons, drop-at}
 use borrow.Author.Tests.{eqb-true, eqb-false, lt-ltb, le-ltb, ltb-true}
 use Rattle.tally.specs.Tally.{differ, sum, tally}
 use Rattle.tally.proofs.Test.{by-test}
@@ -20,6 +20,7 @@ use Rattle.block.proofs.Bytes.{num4-le4, num4-front, num4-take, num4-after}
 use Rattle.count.specs.Steps.{stepTable}
 use Rattle.count.proofs.Steps.{table-at}
 use Rattle.tree.specs.Note.{Table, Rising, gapAt, gaps, Starts, rankAt}
+use Rattle.trace.proofs.Zeros.{drop-later}
 
 pub gaps-none : (st px : List ℕ) → gaps st px 0 ≡ 0
 unfolding gaps sum
@@ -73,10 +74,7 @@ module _ (s : List ℕ) (i n : ℕ) (h : i + 4 ≤ length s) where
   over-long = length-append (take i s ++ le4 n) (drop (i + 4) s) ∙ omega (arith, both, length-drop (i + 4) s)
 
   over-rest : (m : ℕ) → i + 4 ≤ m → drop m (over s i n) ≡ drop m s
-  over-rest m l =
-      let e : i + 4 + (m - (i + 4)) ≡ m = omega arith in
-      let c : (z : List ℕ) → drop m z ≡ drop (m - (i + 4)) (drop (i + 4) z) = λ z. ap (λ (y : ℕ). drop y z) (sym e) ∙ sym (drop-drop (m - (i + 4)) (i + 4) z) in
-      c (over s i n) ∙ ap (drop (m - (i + 4))) (drop-at (take i s ++ le4 n) (drop (i + 4) s) (i + 4) both) ∙ sym (c s)
+  over-rest m l = drop-later (over s i n) s (i + 4) m l (drop-at (take i s ++ le4 n) (drop (i + 4) s) (i + 4) both)
 
 pub running-more : (st px work₀ work u : List ℕ) (b n : ℕ) → u ≡ take (4 * b) work ++ le4 n ++ drop (4 * b + 4) work → 4 * b + 4 ≤ length work → 4 * b + 4 ≤ length px
     → length px ≤ 4194304 → n ≡ gaps st px (8 * b) → n ≤ 255 * (8 * b) → Running st px work₀ work b → Running st px work₀ u (b + 1)

@@ -14,15 +14,11 @@ use trace::list_verdict;
 use walk::strip;
 use walk::walk;
 ghost use mathlib.Core.Path.{_≡_};
-ghost use mathlib.Core.List.{List, _++_};
-ghost use Prim.Native.Nat.{ℕ, _+_, _*_, _≤_, _<_};
-ghost use lib.ListN.{length, drop, replicate};
-ghost use Rattle.tally.specs.Tally.{tally};
+ghost use Prim.Native.Nat.{_≤_, _<_};
+ghost use lib.ListN.{length};
 ghost use Rattle.matte.specs.Layout.{eight};
 ghost use Rattle.matte.specs.Picture.{picture};
-ghost use Rattle.edgel.specs.Word.{flagged};
-ghost use Rattle.outline.specs.List.{listed, listVerdict};
-ghost use Rattle.enclosure.specs.Tree.{entries, lineCount};
+ghost use Rattle.outline.specs.List.{listVerdict};
 ghost use Rattle.enclosure.specs.Call.{half, treeVerdict, treeAnswer, treeWork, treeWords, treeEntries};
 ghost use Rattle.tree.specs.Made.{TreeMade};
 

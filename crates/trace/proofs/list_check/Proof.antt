@@ -1,17 +1,14 @@
 -- `trace::list_check` meets its contract: one row after the other. Assumes nothing.
 use mathlib.Core.Path.{_≡_, refl, sym, ap, _∙_}
-use mathlib.Core.Bool.{true, false}
-use mathlib.Core.List.{List, []}
-use Prim.Native.Nat.{ℕ, _*_, _≤_, _<_}
+use mathlib.Core.Bool.{true}
+use Prim.Native.Nat.{ℕ, _*_}
 use native.Mathlib.Omega.{arith}
 use lib.ListN.{length}
 use borrow.Author.Tests.{not-true, not-false}
-use Rattle.matte.specs.declared.Verdict.{Verdict}
 use Rattle.matte.specs.Layout.{eight}
 use Rattle.matte.specs.Picture.{picture, levelsFit, borderFits}
 use Rattle.refuse.specs.Shape.{shapeNumber}
 use Rattle.refuse.proofs.Sides.{shape-first, shape-sides, shape-length}
-use Rattle.outline.specs.List.{listed}
 use Rattle.trace.proofs.Refusals.{from3, at-3, at-4, at-5, at-6, at-0, refused-words, accepted-words}
 use borrow.Author.Needs.{needs}
 use Rattle.trace.proofs.list_check.Statement.{statement}

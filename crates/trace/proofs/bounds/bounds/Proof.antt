@@ -5,7 +5,8 @@ use Prim.Native.Nat.{ℕ, _-_, _≤_}
 use native.Mathlib.Omega.{arith}
 use lib.ListN.{length, drop}
 use Rattle.trace.specs.Search.{Bounds}
-use Rattle.trace.proofs.Slots.{drop-later, reach-up, reach-few, bounds-none}
+use Rattle.trace.proofs.Zeros.{drop-later}
+use Rattle.trace.proofs.Slots.{reach-up, reach-few, bounds-none}
 use Rattle.trace.proofs.bounds.bounds.Statement.{statement}
 use Rattle.trace.proofs.bounds.bounds.Tie as tie
 
@@ -26,22 +27,22 @@ bound-each-requires c κs =
     let p = c .before .before .before .before .before .before .before .pre in
     let l = c .before .before .before .loop in
     let r = c .before .piece-end .ensures in
-    (omega (arith, r .0), omega (arith, p .0, reach-up (c .before .before .before .before .before .before .before .args .four) _ (c .before .before .before .before .before .before .before .args .slots) (r .1)), p .1, omega (arith, r .1, p .2, l .inv .1), l .inv .3)
+    (omega (arith, r, l .inv .0), omega (arith, p .0, reach-up (c .before .before .before .before .before .before .before .args .four) (c .before .piece-end .result) (c .before .before .before .before .before .before .before .args .slots) (omega (arith, r))), p .1, omega (arith, r, p .2, l .inv .1), l .inv .3)
 
 bound-each-requires-2 : tie.Need-bound-each-requires-2 Inv-loop μ-loop
 bound-each-requires-2 c κs =
     let p = c .before .before .before .before .before .before .before .before .before .before .before .pre in
     let l = c .before .before .before .before .before .before .before .loop in
     let r = c .before .before .before .before .before .piece-end .ensures in
-    (omega (arith, r .0), omega (arith, p .0, reach-up (c .before .before .before .before .before .before .before .before .before .before .before .args .four) _ (c .before .before .before .before .before .before .before .before .before .before .before .args .slots) (r .1)), p .1, omega (arith, r .1, p .3, l .inv .2), l .inv .4)
+    (omega (arith, r, l .inv .0), omega (arith, p .0, reach-up (c .before .before .before .before .before .before .before .before .before .before .before .args .four) (c .before .before .before .before .before .piece-end .result) (c .before .before .before .before .before .before .before .before .before .before .before .args .slots) (omega (arith, r))), p .1, omega (arith, r, p .3, l .inv .2), l .inv .4)
 
 loop-less : tie.Need-loop-less Inv-loop μ-loop
-loop-less c = omega (arith, c .before .before .before .before .before .before .before .before .piece-end .ensures .0, c .before .before .before .before .before .before .before .before .piece-end .ensures .1)
+loop-less c = omega (arith, c .before .before .before .before .before .before .before .before .piece-end .ensures, c .before .before .before .before .before .before .before .before .before .loop-test .taken)
 
 loop-again : tie.Need-loop-again Inv-loop μ-loop
 loop-again c =
     let l = c .before .before .before .before .before .before .before .before .before .before .loop in
-    let r = c .before .before .before .before .before .before .before .before .piece-end .ensures .1 in (
+    let r : c .before .before .before .before .before .before .before .before .piece-end .result ≤ c .before .before .before .before .before .before .before .before .before .before .before .before .before .before .args .slots = omega (arith, c .before .before .before .before .before .before .before .before .piece-end .ensures) in (
       r,
       c .before .before .before .before .before .before .bound-each .kept .1 .1 .0 ∙ l .inv .1,
       c .before .before .bound-each2 .kept .1 .1 .0 ∙ l .inv .2,

@@ -1,6 +1,5 @@
 -- `trace::bounds::reach_of` meets its contract, by whether bounds are shared. Assumes nothing.
 use mathlib.Core.Path.{sym}
-use Prim.Native.Nat.{_*_}
 use borrow.Author.Needs.{needs}
 use Rattle.trace.proofs.Slots.{reach-four, reach-own}
 use Rattle.trace.proofs.bounds.reach_of.Statement.{statement}

@@ -33,7 +33,7 @@ search-requires : tie.Need-search-requires Inv-loop μ-loop
 search-requires c κs =
     let z = c .before .before .before .before .before .before in
     let R = z .pre .0 in
-    (omega arith, omega (arith, row-fits (R .ground), R .ground .sides .w-least), omega (arith, R .ground .whole, R .wide), R .level, z .pre .1, z .pre .2, λ j h. absurd (omega arith))
+    (omega arith, omega (arith, row-fits (R .ground), R .ground .sides .w-least), omega (arith, R .ground .whole, R .wide), R .level, z .pre .1, z .pre .2, λ j g h. absurd (omega arith))
 
 loop-holds : tie.Need-loop-holds Inv-loop μ-loop
 loop-holds c =

@@ -1,8 +1,9 @@
 -- `trace::search::in_blocks` meets its contract: no place of a block passed was fresh. Assumes nothing.
 use mathlib.Core.Path.{refl}
-use Prim.Native.Nat.{ℕ, _+_, _-_, _*_, _≤_}
+use Prim.Native.Nat.{_-_, _*_, _≤_}
 use native.Mathlib.Omega.{arith}
-use Rattle.trace.proofs.Blocks.{Stale, stale-on, or-found, or-none}
+use Rattle.trace.specs.Search.{Stale}
+use Rattle.trace.proofs.Blocks.{stale-on, or-found, or-none}
 use Rattle.trace.proofs.search.in_blocks.Statement.{statement}
 use Rattle.trace.proofs.search.in_blocks.Tie as tie
 

@@ -1,10 +1,10 @@
 -- `trace::search::in_slot` meets its contract, by whether four blocks share the slot. Assumes nothing.
-use mathlib.Core.Path.{_≡_, refl, ap, _∙_}
-use Prim.Native.Nat.{ℕ, _+_, _*_, _≤_, _<_, max}
+use mathlib.Core.Path.{_≡_, ap, _∙_}
+use Prim.Native.Nat.{ℕ, _+_, _*_}
 use native.Mathlib.Omega.{arith}
 use Rattle.trace.specs.Search.{firstOr}
 use Rattle.trace.proofs.Slots.{reach-four, reach-own, of-four, of-own}
-use Rattle.trace.proofs.Blocks.{stale-on, or-found, or-none, or-skip}
+use Rattle.trace.proofs.Blocks.{or-skip}
 use Rattle.trace.proofs.search.in_slot.Statement.{statement}
 use Rattle.trace.proofs.search.in_slot.Tie as tie
 
@@ -34,40 +34,23 @@ returns c =
     let e : 64 * (4 * a .c + 4) ≡ 256 * (a .c + 1) = omega arith in
     c .in-blocks .ensures
     ∙ ap (λ (z : ℕ). firstOr (a .px .now) (a .work .now) (a .k) (64 * c .before .later .result) z (a .end)) e
-    ∙ or-skip (a .px .now) (a .work .now) (a .k) (256 * a .c) (256 * (a .c + 1)) (a .end) (omega arith) (64 * c .before .later .result) (omega (arith, c .before .later .ensures)) (omega (arith, c .before .later .ensures, w, p .5)) (λ j g h. p .4 j (omega (arith, c .before .later .ensures)))
+    ∙ or-skip (a .px .now) (a .work .now) (a .k) (256 * a .c) (256 * (a .c + 1)) (a .end) (omega arith) (64 * c .before .later .result) (omega (arith, c .before .later .ensures)) (omega (arith, c .before .later .ensures, w, p .5)) (λ j g h. p .4 j (omega arith) (omega (arith, c .before .later .ensures)))
     ∙ of-four (λ x y. firstOr (a .px .now) (a .work .now) (a .k) x y (a .end)) (a .four) (c .before .before .if1 .taken) (256 * a .c) (64 * a .c) (256 * (a .c + 1)) (64 * (a .c + 1))
 
-mul-seen-in : tie.Need-mul-seen-in
-mul-seen-in c = omega (arith, c .before .before .before .pre .0, c .before .before .before .pre .2, reach-own (c .before .before .before .args .four) (c .if1 .left) (c .before .before .before .args .c + 1))
+add-in-blocks-2 : tie.Need-add-in-blocks-2
+add-in-blocks-2 c = omega (arith, c .before .before .before .pre .0, c .before .before .before .pre .2, reach-own (c .before .before .before .args .four) (c .if1 .left) (c .before .before .before .args .c + 1))
 
-seen-in-requires : tie.Need-seen-in-requires
-seen-in-requires c κs =
+in-blocks-requires-2 : tie.Need-in-blocks-requires-2
+in-blocks-requires-2 c κs =
     let p = c .before .before .before .pre in
     let w = reach-own (c .before .before .before .args .four) (c .if1 .left) (c .before .before .before .args .c + 1) in
-    (omega (arith, w, p .0), omega (arith, w, p .1), p .2, p .3)
-
-mul-result : tie.Need-mul-result
-mul-result c = omega (arith, c .before .before .before .before .before .pre .0, c .before .before .before .before .before .pre .2, reach-own (c .before .before .before .before .before .args .four) (c .before .before .if1 .left) (c .before .before .before .before .before .args .c + 1))
-
-cast-result : tie.Need-cast-result
-cast-result c = omega (arith, c .if2 .taken)
-
-add-result : tie.Need-add-result
-add-result c = omega (arith, c .if2 .taken, c .before .before .before .before .before .pre .0, c .before .before .before .before .before .pre .2, reach-own (c .before .before .before .before .before .args .four) (c .before .before .if1 .left) (c .before .before .before .before .before .args .c + 1))
+    (omega arith, omega (arith, w, p .0), omega (arith, w, p .1), p .2, p .3)
 
 returns-2 : tie.Need-returns-2
 returns-2 c =
-    let a = c .before .before .before .before .before .args in
-    let R = c .before .seen-in .ensures in
-    or-found (a .px .now) (a .work .now) (a .k) (64 * a .c) (64 * (a .c + 1)) (a .end) (omega arith) (64 * a .c + c .before .seen-in .result) (omega arith) (omega (arith, c .if2 .taken)) (stale-on (a .px .now) (a .work .now) (a .k) (64 * a .c) (64 * a .c) (c .before .seen-in .result) _ refl (λ j g h. absurd (omega arith)) (R .passed)) (R .found (c .if2 .taken))
-    ∙ of-own (λ x y. firstOr (a .px .now) (a .work .now) (a .k) x y (a .end)) (a .four) (c .before .before .if1 .left) (256 * a .c) (64 * a .c) (256 * (a .c + 1)) (64 * (a .c + 1))
-
-returns-3 : tie.Need-returns-3
-returns-3 c =
-    let a = c .before .before .before .before .before .args in
-    let R = c .before .seen-in .ensures in
-    or-none (a .px .now) (a .work .now) (a .k) (64 * a .c) (64 * (a .c + 1)) (a .end) (omega arith) (stale-on (a .px .now) (a .work .now) (a .k) (64 * a .c) (64 * a .c) 64 _ (omega arith) (λ j g h. absurd (omega arith)) (λ i h. R .passed i (omega (arith, c .if2 .left))))
-    ∙ of-own (λ x y. firstOr (a .px .now) (a .work .now) (a .k) x y (a .end)) (a .four) (c .before .before .if1 .left) (256 * a .c) (64 * a .c) (256 * (a .c + 1)) (64 * (a .c + 1))
+    let a = c .before .before .before .before .args in
+    c .in-blocks2 .ensures
+    ∙ of-own (λ x y. firstOr (a .px .now) (a .work .now) (a .k) x y (a .end)) (a .four) (c .before .if1 .left) (256 * a .c) (64 * a .c) (256 * (a .c + 1)) (64 * (a .c + 1))
 
 pub in-slot-spec : {M : Type 1} → statement M
 in-slot-spec =
@@ -79,10 +62,6 @@ in-slot-spec =
     add-in-blocks
     in-blocks-requires
     returns
-    mul-seen-in
-    seen-in-requires
-    mul-result
-    cast-result
-    add-result
-    returns-2
-    returns-3)
+    add-in-blocks-2
+    in-blocks-requires-2
+    returns-2)

@@ -1,7 +1,7 @@
--- `trace::search::live16` meets its contract: a maximum that stays 0 while no block is live. Assumes nothing.
+-- `trace::search::live16` meets its contract: a maximum that stays 0 while no slot is live. Assumes nothing.
 use mathlib.Core.Path.{_≡_, refl, sym, ap, _∙_}
 use mathlib.Core.Bool.{Bool, not}
-use Prim.Native.Nat.{ℕ, _+_, _-_, _≤_, _<_, max}
+use Prim.Native.Nat.{ℕ, _+_, _-_, _≤_, max}
 use native.Mathlib.Omega.{arith}
 use lib.Dec.{eqb}
 use borrow.Author.Needs.{needs}
@@ -13,10 +13,10 @@ use Rattle.trace.proofs.search.live16.Statement.{statement}
 use Rattle.trace.proofs.search.live16.Tie as tie
 
 abbrev Inv-loop : tie.InvT-loop
-Inv-loop lo hi b k any₀ i₀ any i = (i ≤ 16) × (every (λ j. not (liveAt lo hi k (b + j))) i ≡ eqb any 0)
+Inv-loop lo hi c k any₀ i₀ any i = (i ≤ 16) × (every (λ j. not (liveAt lo hi k (c + j))) i ≡ eqb any 0)
 
 abbrev μ-loop : tie.MeasureT-loop
-μ-loop lo hi b k any₀ i₀ any i = 16 - i
+μ-loop lo hi c k any₀ i₀ any i = 16 - i
 
 loop-holds : tie.Need-loop-holds Inv-loop μ-loop
 loop-holds c = (omega arith, every-none _)

@@ -1,11 +1,11 @@
 -- `trace::search::next_live` meets its contract: no slot passed was live. Assumes nothing.
-use mathlib.Core.Path.{_≡_, refl, sym, ap, _∙_}
-use mathlib.Core.Bool.{Bool, true, false, not}
+use mathlib.Core.Path.{_≡_, sym, ap, _∙_}
+use mathlib.Core.Bool.{true, false, not}
 use Prim.Native.Nat.{ℕ, _+_, _-_, _≤_, _<_}
 use native.Mathlib.Omega.{arith}
 use lib.Dec.{ltb}
 use borrow.Author.Tests.{ltb-true, ltb-false, not-true, not-false}
-use Rattle.tally.specs.Tally.{every, firstFrom}
+use Rattle.tally.specs.Tally.{every}
 use Rattle.tally.proofs.Test.{by-test}
 use Rattle.tally.proofs.Every.{every-at}
 use Rattle.trace.specs.Search.{liveAt}
@@ -14,10 +14,10 @@ use Rattle.trace.proofs.search.next_live.Statement.{statement}
 use Rattle.trace.proofs.search.next_live.Tie as tie
 
 abbrev Inv-loop : tie.InvT-loop
-Inv-loop lo hi b slots k c₀ c = (b ≤ c) × (c ≤ slots) × ((d : ℕ) → b ≤ d → d < c → liveAt lo hi k d ≡ false)
+Inv-loop lo hi from slots k c₀ c = (from ≤ c) × (c ≤ slots) × ((d : ℕ) → from ≤ d → d < c → liveAt lo hi k d ≡ false)
 
 abbrev μ-loop : tie.MeasureT-loop
-μ-loop lo hi b slots k c₀ c = slots - c
+μ-loop lo hi from slots k c₀ c = slots - c
 
 loop-holds : tie.Need-loop-holds Inv-loop μ-loop
 loop-holds c = (omega arith, c .before .before .pre .0, λ d x y. absurd (omega arith))
@@ -36,7 +36,7 @@ returns c =
     let z = c .before .before .before .before .before .before .before in
     let a = z .args in
     let l = c .before .before .before .before .loop in
-    c .scan-live .ensures ∙ from-over (liveAt (a .lo .now) (a .hi .now) (a .k)) (a .b) (l .c) (a .slots) (l .inv .0) (l .inv .1) (l .inv .2)
+    c .scan-live .ensures ∙ from-over (liveAt (a .lo .now) (a .hi .now) (a .k)) (a .from) (l .c) (a .slots) (l .inv .0) (l .inv .1) (l .inv .2)
 
 add-c : tie.Need-add-c Inv-loop μ-loop
 add-c c = omega (arith, c .before .before .loop-test .taken, c .before .before .before .before .before .before .pre .1)
@@ -69,7 +69,7 @@ returns-2 c =
     let z = c .before .before .before .before .before in
     let a = z .args in
     let l = c .before .before .loop in
-    c .scan-live2 .ensures ∙ from-over (liveAt (a .lo .now) (a .hi .now) (a .k)) (a .b) (l .c) (a .slots) (l .inv .0) (l .inv .1) (l .inv .2)
+    c .scan-live2 .ensures ∙ from-over (liveAt (a .lo .now) (a .hi .now) (a .k)) (a .from) (l .c) (a .slots) (l .inv .0) (l .inv .1) (l .inv .2)
 
 pub next-live-spec : {M : Type 1} → statement M
 next-live-spec =

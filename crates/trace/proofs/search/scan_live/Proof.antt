@@ -1,25 +1,21 @@
 -- `trace::search::scan_live` meets its contract: no slot passed was live. Assumes nothing.
-use mathlib.Core.Path.{_≡_, refl, sym, ap, _∙_}
-use mathlib.Core.Bool.{Bool, true, false, not}
-use Prim.Native.Nat.{ℕ, _+_, _-_, _≤_, _<_}
+use mathlib.Core.Path.{_≡_, sym, ap, _∙_}
+use mathlib.Core.Bool.{false}
+use Prim.Native.Nat.{ℕ, _-_, _≤_, _<_}
 use native.Mathlib.Omega.{arith}
 use lib.Dec.{eqb}
-use borrow.Author.Tests.{eqb-true, eqb-false, not-true, not-false}
-use borrow.Author.Needs.{needs}
-use Rattle.tally.specs.Tally.{every, firstFrom}
+use borrow.Author.Tests.{eqb-true, eqb-false}
 use Rattle.tally.proofs.Test.{by-test}
 use Rattle.tally.proofs.First.{from-is}
-use Rattle.tally.proofs.Every.{every-at}
 use Rattle.trace.specs.Search.{liveAt}
-use Rattle.trace.proofs.Blocks.{from-over}
 use Rattle.trace.proofs.search.scan_live.Statement.{statement}
 use Rattle.trace.proofs.search.scan_live.Tie as tie
 
 abbrev Inv-loop : tie.InvT-loop
-Inv-loop lo hi b slots k c₀ c = (b ≤ c) × (c ≤ slots) × ((d : ℕ) → b ≤ d → d < c → liveAt lo hi k d ≡ false)
+Inv-loop lo hi from slots k c₀ c = (from ≤ c) × (c ≤ slots) × ((d : ℕ) → from ≤ d → d < c → liveAt lo hi k d ≡ false)
 
 abbrev μ-loop : tie.MeasureT-loop
-μ-loop lo hi b slots k c₀ c = slots - c
+μ-loop lo hi from slots k c₀ c = slots - c
 
 loop-holds : tie.Need-loop-holds Inv-loop μ-loop
 loop-holds c = (omega arith, c .before .before .pre .0, λ d x y. absurd (omega arith))
@@ -31,7 +27,7 @@ returns : tie.Need-returns Inv-loop μ-loop
 returns c =
     let a = c .before .before .before .before .before .before .args in
     let l = c .before .before .before .loop in
-    sym (from-is (liveAt (a .lo .now) (a .hi .now) (a .k)) (a .b) (a .slots - a .b) (l .c) (l .inv .0) (omega (arith, l .inv .0, l .inv .1)) (l .inv .2) (λ t. sym (c .before .live .ensures) ∙ c .if1 .taken))
+    sym (from-is (liveAt (a .lo .now) (a .hi .now) (a .k)) (a .from) (a .slots - a .from) (l .c) (l .inv .0) (omega (arith, l .inv .0, l .inv .1)) (l .inv .2) (λ t. sym (c .before .live .ensures) ∙ c .if1 .taken))
 
 add-c : tie.Need-add-c Inv-loop μ-loop
 add-c c = omega (arith, c .before .before .loop-test .taken, c .before .before .before .before .before .before .pre .1)
@@ -55,7 +51,7 @@ returns-2 : tie.Need-returns-2 Inv-loop μ-loop
 returns-2 c =
     let a = c .before .before .before .before .args in
     let l = c .before .loop in
-    sym (from-is (liveAt (a .lo .now) (a .hi .now) (a .k)) (a .b) (a .slots - a .b) (l .c) (l .inv .0) (omega (arith, l .inv .0, l .inv .1)) (l .inv .2) (λ t. absurd (omega (arith, c .loop-test .left, l .inv .0))))
+    sym (from-is (liveAt (a .lo .now) (a .hi .now) (a .k)) (a .from) (a .slots - a .from) (l .c) (l .inv .0) (omega (arith, l .inv .0, l .inv .1)) (l .inv .2) (λ t. absurd (omega (arith, c .loop-test .left, l .inv .0))))
 
 pub scan-live-spec : {M : Type 1} → statement M
 scan-live-spec =

@@ -1,13 +1,12 @@
 -- `trace::search::search` meets its contract: no place passed was fresh, whether it was looked at or its slot was passed over. Assumes nothing.
-use mathlib.Core.Path.{_≡_, refl, ap, _∙_}
-use Prim.Native.Nat.{ℕ, _+_, _-_, _*_, _/_, _≤_, _<_}
+use mathlib.Core.Path.{refl, ap, _∙_}
+use Prim.Native.Nat.{_+_, _-_, _*_, _/_, _≤_}
 use native.Mathlib.Omega.{arith}
-use Rattle.tally.specs.Tally.{firstFrom}
 use Rattle.tally.proofs.First.{from-ge}
 use Rattle.trace.specs.Trace.{fresh}
-use Rattle.trace.specs.Search.{slot, reach, liveAt}
+use Rattle.trace.specs.Search.{slot, reach, liveAt, Stale}
 use Rattle.trace.proofs.Slots.{reach-up, reach-few, slot-around, slot-next}
-use Rattle.trace.proofs.Blocks.{from-over, Stale, stale-on, stale-next, or-found, or-first, or-bare}
+use Rattle.trace.proofs.Blocks.{from-over, stale-on, stale-next, or-found, or-first, or-bare}
 use Rattle.trace.proofs.search.search.Statement.{statement}
 use Rattle.trace.proofs.search.search.Tie as tie
 
@@ -60,7 +59,7 @@ returns-2 c =
     let u = reach-up (a .four) (slot (a .four) (a .from / 64) + 1) (a .slots) (omega (arith, c .before .before .before .slot-of .ensures, c .before .before .if1 .left)) in
     or-first (a .px .now) (a .work .now) (a .k) (64 * (a .from / 64)) (64 * (a .from / 64) + 64) (a .end) (omega arith) (64 * (a .from / 64) + i) (omega (arith, s, u, p .4))
     (or-found (a .px .now) (a .work .now) (a .k) (64 * (a .from / 64)) (64 * (a .from / 64) + 64) (a .end) (omega arith) (64 * (a .from / 64) + i) (omega arith) (omega (arith, c .if2 .taken)) (stale-on (a .px .now) (a .work .now) (a .k) (64 * (a .from / 64)) (64 * (a .from / 64)) i _ refl (λ j g h. absurd (omega arith)) (R .passed)) (R .found (c .if2 .taken)))
-    (λ j g h. p .6 j (omega arith)) (a .from) (p .6) (omega (arith, s, u, p .4, c .if2 .taken))
+    (λ j g h. p .6 j g (omega arith)) (a .from) (p .6) (omega (arith, s, u, p .4, c .if2 .taken))
 
 add-b : tie.Need-add-b Inv-loop μ-loop
 add-b c = omega (arith, c .before .before .before .before .before .before .before .before .pre .0, c .before .before .before .before .before .before .before .before .pre .1, c .before .before .before .before .before .before .before .before .pre .5 .few)
@@ -76,7 +75,7 @@ loop-holds c =
     let b = a .from / 64 + 1 in
     let s = slot-around (a .four) (a .from / 64) .1 in
     let u = reach-up (a .four) (slot (a .four) (a .from / 64) + 1) (a .slots) (omega (arith, c .before .before .before .before .slot-of .ensures, c .before .before .before .if1 .left)) in
-    let z : Stale (a .px .now) (a .work .now) (a .k) 0 (64 * b) = stale-on (a .px .now) (a .work .now) (a .k) 0 (64 * (a .from / 64)) 64 (64 * b) (omega arith) (λ j g h. p .6 j (omega arith)) (λ i h. R .passed i (omega (arith, c .before .if2 .left))) in
+    let z : Stale (a .px .now) (a .work .now) (a .k) 0 (64 * b) = stale-on (a .px .now) (a .work .now) (a .k) 0 (64 * (a .from / 64)) 64 (64 * b) (omega arith) (λ j g h. p .6 j g (omega arith)) (λ i h. R .passed i (omega (arith, c .before .if2 .left))) in
     let e = ap (reach (a .four)) (c .slot-of2 .ensures) in (
       omega (arith, c .slot-of2 .ensures),
       omega (arith, c .slot-of2 .ensures, c .before .before .before .before .slot-of .ensures, c .before .before .before .if1 .left, slot-next (a .four) (a .from / 64)),
@@ -111,7 +110,7 @@ in-slot-requires c κs =
     let u = reach-up (a .four) (r + 1) (a .slots) (omega (arith, c .if3 .left)) in
     let g = from-ge (liveAt (a .lo .now) (a .hi .now) (a .k)) (l .c) (a .slots - l .c) in
     let v = reach-up (a .four) (slot (a .four) (a .from / 64 + 1) + 1) (r + 1) (omega (arith, l .inv .0, c .before .next-live .ensures, g)) in
-    (omega (arith, u, p .5 .inside), omega (arith, u, p .4, p .2), p .5 .few, refl, λ j h. l .inv .3 j (omega arith) h, omega (arith, v, slot-around (a .four) (a .from / 64 + 1) .1))
+    (omega (arith, u, p .5 .inside), omega (arith, u, p .4, p .2), p .5 .few, refl, l .inv .3, omega (arith, v, slot-around (a .four) (a .from / 64 + 1) .1))
 
 returns-4 : tie.Need-returns-4 Inv-loop μ-loop
 returns-4 c =

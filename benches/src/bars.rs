@@ -26,6 +26,9 @@ const CHECK: f64 = 6.0 / 7.0;
 /// What listing may take of the yardstick's time: at one level on smooth ground, and elsewhere.
 const LIST: (f64, f64) = (0.9, 1.4);
 
+/// Where nothing is crossed, listing may take a look a level, and this many more to count and to clear.
+const BESIDES: f64 = 5.0;
+
 /// The comparison's time against the yardstick's, a C++ listing that is not part of this repository: the least of 25
 /// repeats of both in one run. The bars are set against the yardstick, and only the comparison is here.
 const COMPARISON: [(&str, usize, f64); 11] = [
@@ -85,7 +88,10 @@ pub fn all(seen: &[Figures]) -> Vec<Bar> {
     bars.push(slowest("check/plain loop", CHECK, &crossed, |g| g.check));
     bars.push(slowest("read/plain loop", CHECK / 2.0, &crossed, |g| g.read));
     bars.push(slowest("write/plain loop", CHECK / 2.0, &crossed, |g| g.write));
-    bars.extend(flat.iter().map(|f| f.bar("list, ns a sample and level", 1.5, f.look_time())));
+    bars.extend(flat.iter().filter_map(|f| {
+        let levels = f.levels as f64;
+        Some(f.bar("list/looks", (BESIDES + levels) / levels, f.list / f.looks?))
+    }));
     bars
 }
 

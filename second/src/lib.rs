@@ -4,6 +4,7 @@
 //! definitions as code. It does not try to be fast. The lists are found as orbits of the turn
 //! rule, so that a mistake in a row by row scan cannot be repeated here.
 
+mod crossing;
 mod edgel;
 mod fault;
 mod file;
@@ -19,7 +20,7 @@ mod refusal;
 mod tree;
 mod word;
 
-pub use edgel::Crossing;
+pub use crossing::Crossing;
 pub use fault::Fault;
 pub use file::Read;
 pub use piece::{Centre, Piece};

@@ -87,9 +87,9 @@ impl<'a> Desk<'a> {
     fn read_damaged(&mut self) -> Answer {
         let last = self.file.len() - 1;
         self.file[last] ^= 255;
-        let answer = library::read(&self.file, &mut self.others);
+        let read = library::read(&self.file, &mut self.others);
         self.file[last] ^= 255;
-        answer
+        read.answer
     }
 
     pub fn run(&mut self, call: Call) {
@@ -98,7 +98,7 @@ impl<'a> Desk<'a> {
             Call::Paint => done(self.paint()),
             Call::Tree => done(self.tree()),
             Call::Write => done(self.write()),
-            Call::Read => done(library::read(&self.file, &mut self.others)),
+            Call::Read => done(library::read(&self.file, &mut self.others).answer),
             Call::Comparison => assert!(self.compare().is_some(), "the comparison lists the picture"),
             Call::Check => assert_eq!(self.read_damaged().number, 13, "a wrong check is refused"),
             Call::PlainCheck => assert_eq!(plain::right_blocks(&self.file), self.file.len() / 512),
@@ -135,7 +135,7 @@ impl<'a> Desk<'a> {
         self.file = vec![0; refused.place];
         done(self.write());
         self.others.fill(0);
-        done(library::read(&self.file, &mut self.others));
+        done(library::read(&self.file, &mut self.others).answer);
         assert!(self.words == self.others, "{}: the file reads otherwise", self.picture.name);
         let answer = self.read_damaged();
         assert_eq!((answer.number, answer.place), (13, self.file.len() / 512 - 1), "the last block is damaged");

@@ -3,6 +3,8 @@
 mod bars;
 mod comparison;
 mod desk;
+#[allow(dead_code)]
+#[path = "../../crates/host/loafcanyon.rs"]
 mod library;
 mod matte;
 mod measure;

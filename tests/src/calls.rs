@@ -37,8 +37,6 @@ pub const ALL: [Call; 11] = [
 /// A program under test.
 #[allow(clippy::too_many_arguments)]
 pub trait Calls: Sync {
-    /// Does the program have this call yet?
-    fn has(&self, call: Call) -> bool;
     fn list(&self, w: usize, h: usize, px: &[u8], levels: &[u8], work: &mut [u8], words: &mut [u32]) -> Answer;
     fn tree(
         &self, w: usize, h: usize, px: &[u8], levels: &[u8], work: &mut [u8], words: &mut [u32], tree: &mut [u32],
@@ -56,10 +54,6 @@ pub trait Calls: Sync {
 }
 
 impl Calls for Second {
-    fn has(&self, _call: Call) -> bool {
-        true
-    }
-
     fn list(&self, w: usize, h: usize, px: &[u8], levels: &[u8], work: &mut [u8], words: &mut [u32]) -> Answer {
         Second::list(self, w, h, px, levels, work, words)
     }

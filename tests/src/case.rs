@@ -11,7 +11,7 @@ use crate::lent::{Lent, Room};
 use crate::show::show;
 
 /// One call. Fields that the call does not take stay empty.
-#[derive(Clone, Default)]
+#[derive(Clone, Default, PartialEq)]
 pub struct Case {
     pub call: Call,
     pub w: usize,
@@ -161,6 +161,12 @@ impl Case {
             guards_whole: guards == [true; 4],
             unchanged,
         }
+    }
+
+    /// How much there is to read in it.
+    pub fn size(&self) -> usize {
+        let lists = self.px.len() + self.levels.len() + self.words.len() + self.input.len();
+        lists + self.rooms().map(|(_, room)| room.size).sum::<usize>()
     }
 
     /// The rooms that have places, by name.

@@ -52,19 +52,15 @@ pub fn group(run: &mut Run) {
 fn all_of_picture(run: &mut Run, met: &mut Met, mut case: Case, levels: &[u8]) {
     for &level in levels {
         case.level = level;
-        if run.can(Call::Crossing) {
-            case.call = Call::Crossing;
-            for code in 0..2 * (case.w * case.h) as u32 + 3 {
-                case.code = code;
-                crossing(run, met, &case);
-            }
+        case.call = Call::Crossing;
+        for code in 0..2 * (case.w * case.h) as u32 + 3 {
+            case.code = code;
+            crossing(run, met, &case);
         }
-        if run.can(Call::Piece) {
-            case.call = Call::Piece;
-            for (y, x) in (0..case.h).flat_map(|y| (0..case.w).map(move |x| (y, x))) {
-                (case.x, case.y) = (x, y);
-                piece(run, met, &case);
-            }
+        case.call = Call::Piece;
+        for (y, x) in (0..case.h).flat_map(|y| (0..case.w).map(move |x| (y, x))) {
+            (case.x, case.y) = (x, y);
+            piece(run, met, &case);
         }
         if run.over() {
             return;

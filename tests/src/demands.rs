@@ -1,5 +1,7 @@
 //! Group: the three demands, checked of what the subject itself returns.
 
+use second::Second;
+
 use crate::blocks::Parts;
 use crate::calls::{Call, Calls};
 use crate::case::{Case, Outcome, Said};
@@ -11,12 +13,6 @@ use crate::rng::Rng;
 use crate::run::Run;
 
 pub fn group(run: &mut Run) {
-    if !run.can(Call::List) {
-        return;
-    }
-    for call in [Call::Tree, Call::Member, Call::Paint, Call::Write, Call::Read] {
-        run.can(call);
-    }
     run.turns(40_000, |run, rng| {
         let (w, h) = pictures::sides(rng, 9);
         let picture = pictures::any(rng, w, h);
@@ -36,6 +32,16 @@ pub fn group(run: &mut Run) {
         let picture = pictures::any(rng, w, h);
         run.demand(&picture.case(Call::List, &pictures::all_levels(), rng, Room::exact), painted_whole);
     });
+}
+
+/// Every demand of a list case that was found elsewhere, if it is one that can be done.
+pub fn again(run: &mut Run, case: &Case) {
+    let whole = case.call == Call::List && case.w.checked_mul(case.h) == Some(case.px.len()) && !case.px.is_empty();
+    let listed = |(_, list): (Picture, Case)| list.run(&Second::TRUE).number() == 0;
+    if whole && as_list(case).is_ok_and(listed) {
+        run.demand(case, all_demands);
+        run.demand(case, painted_whole);
+    }
 }
 
 /// The answer of a call that must be done.
@@ -81,9 +87,6 @@ fn all_demands(calls: &dyn Calls, case: &Case) -> Result<u64, String> {
 }
 
 fn tree(calls: &dyn Calls, picture: &Picture, list: &Case, words: &[u32], outlines: &[Outline]) -> Result<u64, String> {
-    if !calls.has(Call::Tree) {
-        return Ok(0);
-    }
     let case = picture.case(Call::Tree, &list.levels, &mut Rng::new(1, 2), Room::exact);
     let outcome = done(calls, &case)?;
     if outcome.words() != words {
@@ -100,7 +103,7 @@ fn tree(calls: &dyn Calls, picture: &Picture, list: &Case, words: &[u32], outlin
 fn members(calls: &dyn Calls, picture: &Picture, words: &[u32], outlines: &[Outline]) -> Result<u64, String> {
     let (w, h) = (picture.w, picture.h);
     let step = outlines.len() / 4 + 1;
-    for (n, outline) in outlines.iter().enumerate().step_by(step).filter(|_| calls.has(Call::Member)) {
+    for (n, outline) in outlines.iter().enumerate().step_by(step) {
         let inside = definition::odd_left(picture, outline);
         for place in (n % 3..w * h).step_by(3) {
             let (x, y) = (place % w, place / w);
@@ -111,13 +114,10 @@ fn members(calls: &dyn Calls, picture: &Picture, words: &[u32], outlines: &[Outl
             }
         }
     }
-    Ok(calls.has(Call::Member) as u64)
+    Ok(1)
 }
 
 fn painted_back(calls: &dyn Calls, picture: &Picture, levels: &[u8], words: &[u32]) -> Result<u64, String> {
-    if !calls.has(Call::Paint) {
-        return Ok(0);
-    }
     let parts = parts(picture, levels, words);
     let room = Room::exact(&mut Rng::new(1, 3), picture.px.len());
     let outcome = done(calls, &Case { call: Call::Paint, ..write_case(&parts, room) })?;
@@ -137,9 +137,6 @@ fn painted_whole(calls: &dyn Calls, case: &Case) -> Result<u64, String> {
 
 /// Written and read, the list is the same.
 fn stored(calls: &dyn Calls, picture: &Picture, levels: &[u8], words: &[u32]) -> Result<u64, String> {
-    if !calls.has(Call::Write) || !calls.has(Call::Read) {
-        return Ok(0);
-    }
     let parts = parts(picture, levels, words);
     let mut rng = Rng::new(1, 4);
     let needed = 512 * (1 + words.len().div_ceil(127));

@@ -28,7 +28,7 @@ pub fn run(groups: &[&Group], seed: u64) -> (u64, u64) {
 fn catchers(groups: &[&Group], fault: Fault, seed: u64) -> Vec<&'static str> {
     let subject = Second { fault };
     let catches = |group: &&&Group| {
-        let mut run = Run::new(&subject, group.name, Plan { seed, reduced: true, deadline: None });
+        let mut run = Run::new(&subject, group.name, Plan { reduced: true, ..Plan::whole(seed) });
         (group.run)(&mut run);
         run.failed > 0
     };

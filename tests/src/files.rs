@@ -96,11 +96,8 @@ fn read(run: &mut Run, rng: &mut Rng, file: &[u8], places: usize) -> Option<Outc
         let levels = read.levels[..read.count as usize].to_vec();
         let (w, h, border) = (read.w as usize, read.h as usize, read.border);
         let parts = Parts { w, h, border, levels, words: outcome.words().to_vec() };
-        let mut wrong = blocks::build(&parts) != file;
-        if run.can(Call::Write) {
-            let written = write_case(&parts, Room::exact(rng, file.len())).run(run.subject);
-            wrong |= written.number() != 0 || written.room != file;
-        }
+        let written = write_case(&parts, Room::exact(rng, file.len())).run(run.subject);
+        let wrong = blocks::build(&parts) != file || written.number() != 0 || written.room != file;
         run.direct(&case, wrong.then(|| "a file that writing does not make was taken".to_string()));
     }
     Some(outcome)

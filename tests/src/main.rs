@@ -5,8 +5,9 @@
 //! `suite --seed NUMBER` takes another seed.
 //! `suite --long SECONDS` goes on with fresh seeds.
 //! `suite --faults` shows that wrong variants of the second program are caught.
-//! `suite --whole` fails if the subject lacks a call.
 //! `suite --fault NAME` takes one wrong variant as the subject, and so shows how it fails.
+//! `suite --case TEXT` runs one case, or one turn of a group, as a failure prints it; `@FILE` takes the text from a file.
+//! `suite --layout` prints how the structs that cross to C are laid out.
 
 mod blocks;
 mod calls;
@@ -19,13 +20,19 @@ mod files;
 mod frames;
 mod json;
 mod large;
+#[cfg(feature = "library")]
+mod layout;
 mod lent;
 #[cfg(feature = "library")]
 mod library;
 mod listings;
+#[cfg(feature = "library")]
+#[path = "../../crates/host/loafcanyon.rs"]
+mod loafcanyon;
 mod pictures;
 mod random;
 mod refusals;
+mod replay;
 mod rng;
 mod run;
 mod show;
@@ -88,8 +95,9 @@ struct Wish {
     seed: Option<u64>,
     long: Option<u64>,
     faults: bool,
-    whole: bool,
     fault: Option<Fault>,
+    case: Option<String>,
+    layout: bool,
 }
 
 fn wish() -> Result<Wish, String> {
@@ -102,8 +110,9 @@ fn wish() -> Result<Wish, String> {
             "--seed" => wish.seed = Some(number(&value()?)?),
             "--long" => wish.long = Some(number(&value()?)?),
             "--faults" => wish.faults = true,
-            "--whole" => wish.whole = true,
             "--fault" => wish.fault = Some(fault(&value()?)?),
+            "--case" => wish.case = Some(text(value()?)?),
+            "--layout" => wish.layout = true,
             other => return Err(format!("{other} is not known")),
         }
     }
@@ -127,23 +136,32 @@ fn number(text: &str) -> Result<u64, String> {
     parsed.map_err(|_| format!("{text} is no number"))
 }
 
+/// The text of a case: itself, or what a file holds.
+fn text(given: String) -> Result<String, String> {
+    match given.strip_prefix('@') {
+        Some(file) => std::fs::read_to_string(file).map_err(|error| format!("{file}: {error}")),
+        None => Ok(given),
+    }
+}
+
 /// Runs one group and prints its line. Gives the cases passed and failed.
 fn run_group(subject: &dyn Calls, group: &Group, plan: Plan) -> (u64, u64) {
     let started = Instant::now();
     let mut run = Run::new(subject, group.name, plan);
     (group.run)(&mut run);
+    run.show_failures();
     println!("{}", run.line(started.elapsed().as_secs_f64()));
     (run.cases - run.failed.min(run.cases), run.failed)
 }
 
 /// Goes on with fresh seeds until the time is over.
-fn run_long(subject: &dyn Calls, groups: &[&Group], seconds: u64, first: u64) -> (u64, u64) {
+fn run_long(subject: &dyn Calls, groups: &[&Group], seconds: u64, plan: Plan) -> (u64, u64) {
     let deadline = Instant::now() + Duration::from_secs(seconds);
     let (mut passed, mut failed) = (0, 0);
-    for seed in first.. {
+    for seed in plan.seed.. {
         println!("seed {seed:#x}");
         for group in groups.iter().filter(|group| group.random) {
-            let (p, f) = run_group(subject, group, Plan { seed, reduced: false, deadline: Some(deadline) });
+            let (p, f) = run_group(subject, group, Plan { seed, deadline: Some(deadline), ..plan });
             (passed, failed) = (passed + p, failed + f);
         }
         if Instant::now() >= deadline || failed > 0 {
@@ -153,10 +171,31 @@ fn run_long(subject: &dyn Calls, groups: &[&Group], seconds: u64, first: u64) ->
     (passed, failed)
 }
 
-/// How many calls the subject lacks. Each is printed.
-fn lacking(subject: &dyn Calls) -> u64 {
-    let lacking = calls::ALL.into_iter().filter(|&call| !subject.has(call));
-    lacking.inspect(|call| println!("the subject lacks {call:?}")).count() as u64
+/// Runs one case again, or one turn of a group. Gives the cases passed and failed.
+fn run_again(subject: &dyn Calls, text: &str, plan: Plan) -> Result<(u64, u64), String> {
+    if let Some((name, seed, turn)) = replay::turn_of(text.trim()) {
+        let group = GROUPS.iter().find(|group| group.name == name).ok_or(format!("there is no group {name}"))?;
+        let (passed, failed) = run_group(subject, group, Plan { seed, turn: Some(turn), ..plan });
+        return if passed + failed > 0 { Ok((passed, failed)) } else { Err(format!("there is no turn {turn}")) };
+    }
+    let case = replay::case_of(text)?;
+    println!("case    {case}\nsubject {}\nsecond  {}", case.run(subject), case.run(&Second::TRUE));
+    let mut run = Run::new(subject, "case", plan);
+    run.check(&case);
+    demands::again(&mut run, &case);
+    run.show_failures();
+    Ok((run.cases - run.failed, run.failed))
+}
+
+#[cfg(feature = "library")]
+fn print_layout() -> Result<(), String> {
+    layout::print();
+    Ok(())
+}
+
+#[cfg(not(feature = "library"))]
+fn print_layout() -> Result<(), String> {
+    Err("the layout is that of the library: --features library".to_string())
 }
 
 fn fresh_seed() -> u64 {
@@ -164,29 +203,40 @@ fn fresh_seed() -> u64 {
     rng::Rng::new(since.as_nanos() as u64, 1).next() >> 16
 }
 
-fn main() -> ExitCode {
-    let wish = match wish() {
-        Ok(wish) => wish,
-        Err(message) => {
-            eprintln!("{message}");
-            return ExitCode::from(2);
-        }
-    };
-    case::panics_in_cases_are_silent();
+/// Does what is asked. Gives the cases passed and failed.
+fn run(wish: &Wish) -> Result<(u64, u64), String> {
     let wanted = |group: &&Group| wish.only.as_ref().is_none_or(|names| names.iter().any(|name| name == group.name));
     let groups: Vec<&Group> = GROUPS.iter().filter(wanted).collect();
     let subject = wish.fault.map_or_else(program, |fault| Box::new(Second { fault }));
-    let seed = wish.seed.unwrap_or(SEED);
-    let (passed, failed) = if wish.faults {
-        faults::run(&groups, seed)
+    let plan = Plan { fault: wish.fault, ..Plan::whole(wish.seed.unwrap_or(SEED)) };
+    if let Some(text) = &wish.case {
+        run_again(&*subject, text, plan)
+    } else if wish.faults {
+        Ok(faults::run(&groups, plan.seed))
     } else if let Some(seconds) = wish.long {
-        run_long(&*subject, &groups, seconds, wish.seed.unwrap_or_else(fresh_seed))
+        let seed = wish.seed.unwrap_or_else(fresh_seed);
+        Ok(run_long(&*subject, &groups, seconds, Plan { seed, ..plan }))
     } else {
-        let plan = Plan { seed, reduced: false, deadline: None };
         let results = groups.iter().map(|group| run_group(&*subject, group, plan));
-        results.fold((0, 0), |sum, one| (sum.0 + one.0, sum.1 + one.1))
-    };
-    let failed = failed + if wish.whole { lacking(&*subject) } else { 0 };
-    println!("{passed} passed, {failed} failed");
-    ExitCode::from((failed > 0) as u8)
+        Ok(results.fold((0, 0), |sum, one| (sum.0 + one.0, sum.1 + one.1)))
+    }
+}
+
+fn main() -> ExitCode {
+    case::panics_in_cases_are_silent();
+    let done = wish().and_then(|wish| match wish.layout {
+        true => print_layout().map(|()| None),
+        false => run(&wish).map(Some),
+    });
+    match done {
+        Ok(None) => ExitCode::SUCCESS,
+        Ok(Some((passed, failed))) => {
+            println!("{passed} passed, {failed} failed");
+            ExitCode::from((failed > 0) as u8)
+        }
+        Err(message) => {
+            eprintln!("{message}");
+            ExitCode::from(2)
+        }
+    }
 }

@@ -35,17 +35,15 @@ const TABLES: [Table; 9] = [
 ];
 
 pub fn group(run: &mut Run) {
-    let mut round = 0;
     run.turns(300, |run, rng| {
         for table in &TABLES {
             for set in 0..1u32 << table.order.len() {
                 let heavy = table.order.iter().enumerate().any(|(place, spoil)| spoil.0 == 16 && set >> place & 1 == 1);
-                if !heavy || round == 0 {
+                if !heavy || run.first_turn() {
                     all_of(run, rng, table, set);
                 }
             }
         }
-        round += 1;
     });
 }
 

@@ -1,12 +1,13 @@
 //! The run of one group: it counts, compares and shows what fails.
 
-use std::collections::BTreeSet;
+use std::collections::BTreeMap;
 use std::time::Instant;
 
-use second::Second;
+use second::{Fault, Second};
 
 use crate::calls::{Call, Calls};
 use crate::case::{Case, Outcome, Said};
+use crate::replay;
 use crate::rng::Rng;
 use crate::shrink::shrink;
 
@@ -17,14 +18,49 @@ pub struct Plan {
     /// Fewer cases, nothing printed, and an end at the first failure.
     pub reduced: bool,
     pub deadline: Option<Instant>,
+    /// Only the cases of this turn.
+    pub turn: Option<u64>,
+    /// The wrong variant that is the subject, if it is one.
+    pub fault: Option<Fault>,
 }
 
-/// May a failing case be made smaller, and its rooms as well?
-#[derive(PartialEq)]
-enum Smaller {
-    No,
-    Yes,
-    WithRooms,
+impl Plan {
+    /// All of it, with this seed.
+    pub fn whole(seed: u64) -> Plan {
+        Plan { seed, reduced: false, deadline: None, turn: None, fault: None }
+    }
+}
+
+/// A demand on what the subject returns. It gives the number of things it looked at.
+pub type Demand = fn(&dyn Calls, &Case) -> Result<u64, String>;
+
+/// How a case fails.
+enum Wrong {
+    /// Subject and second program differ.
+    Compared,
+    /// A demand does not hold.
+    Demand(Demand),
+    /// It was found in another way, and is replayed with its turn.
+    Found(String),
+}
+
+impl Wrong {
+    /// What is wrong with a case.
+    fn with(&self, case: &Case, subject: &dyn Calls) -> Option<String> {
+        match self {
+            Wrong::Compared => difference(&case.run(subject), &case.run(&Second::TRUE)).map(str::to_string),
+            Wrong::Demand(holds) => holds(subject, case).err(),
+            Wrong::Found(message) => Some(message.clone()),
+        }
+    }
+}
+
+/// The failing cases of one call: how many, and the smallest.
+struct Failure {
+    count: u64,
+    case: Case,
+    wrong: Wrong,
+    turn: u64,
 }
 
 /// One group at work on one subject.
@@ -36,8 +72,7 @@ pub struct Run<'a> {
     pub notes: Vec<String>,
     plan: Plan,
     turn: u64,
-    left_out: BTreeSet<Call>,
-    shown: BTreeSet<Call>,
+    failures: BTreeMap<Call, Failure>,
 }
 
 /// What is wrong with an outcome, seen against the true second program.
@@ -57,8 +92,7 @@ fn difference(subject: &Outcome, truth: &Outcome) -> Option<&'static str> {
 
 impl<'a> Run<'a> {
     pub fn new(subject: &'a dyn Calls, group: &'static str, plan: Plan) -> Run<'a> {
-        let none = BTreeSet::new();
-        Run { subject, group, cases: 0, failed: 0, notes: vec![], plan, turn: 0, left_out: none.clone(), shown: none }
+        Run { subject, group, cases: 0, failed: 0, notes: vec![], plan, turn: 0, failures: BTreeMap::new() }
     }
 
     /// Is there nothing more to do?
@@ -88,7 +122,9 @@ impl<'a> Run<'a> {
                 return;
             }
             let mut rng = self.rng();
-            one(self, &mut rng);
+            if self.wanted() {
+                one(self, &mut rng);
+            }
         }
     }
 
@@ -99,18 +135,19 @@ impl<'a> Run<'a> {
         Rng::new(name, self.turn)
     }
 
-    /// Does the subject have the call? If not, this is remembered.
-    pub fn can(&mut self, call: Call) -> bool {
-        let has = self.subject.has(call);
-        if !has {
-            self.left_out.insert(call);
-        }
-        has
+    /// Is this the group's first turn?
+    pub fn first_turn(&self) -> bool {
+        self.turn == 1
+    }
+
+    /// Are the cases of this turn asked for?
+    fn wanted(&self) -> bool {
+        self.plan.turn.is_none_or(|turn| turn == self.turn)
     }
 
     /// Compares the subject with the second program in one case. Gives the outcome if all is well.
     pub fn check(&mut self, case: &Case) -> Option<Outcome> {
-        if !self.can(case.call) {
+        if !self.wanted() {
             return None;
         }
         self.cases += 1;
@@ -124,49 +161,85 @@ impl<'a> Run<'a> {
 
     /// Counts cases that were compared without being built.
     pub fn count(&mut self, cases: u64) {
-        self.cases += cases;
+        self.cases += if self.wanted() { cases } else { 0 };
     }
 
-    /// Shows a case in which subject and second program differ.
+    /// Notes a case in which subject and second program differ.
     pub fn fail_compared(&mut self, case: &Case) {
-        let subject = self.subject;
-        let message = |case: &Case| difference(&case.run(subject), &case.run(&Second::TRUE)).map(str::to_string);
-        self.fail(case, Smaller::WithRooms, &message);
+        self.fail(case, Wrong::Compared);
     }
 
     /// Notes a failure that was found without the second program.
     pub fn direct(&mut self, case: &Case, wrong: Option<String>) {
         if let Some(wrong) = wrong {
-            self.fail(case, Smaller::No, &|_| Some(wrong.clone()));
+            self.fail(case, Wrong::Found(wrong));
         }
     }
 
-    /// A demand on what the subject returns. It gives the number of things it looked at.
-    pub fn demand(&mut self, case: &Case, holds: impl Fn(&dyn Calls, &Case) -> Result<u64, String>) {
-        let subject = self.subject;
-        match holds(subject, case) {
+    /// A demand on what the subject returns.
+    pub fn demand(&mut self, case: &Case, holds: Demand) {
+        if !self.wanted() {
+            return;
+        }
+        match holds(self.subject, case) {
             Ok(count) => self.cases += count,
             Err(_) => {
                 self.cases += 1;
-                self.fail(case, Smaller::Yes, &|case| holds(subject, case).err());
+                self.fail(case, Wrong::Demand(holds));
             }
         }
     }
 
-    fn fail(&mut self, case: &Case, smaller: Smaller, message: &dyn Fn(&Case) -> Option<String>) {
-        self.failed += 1;
-        if self.plan.reduced || !self.shown.insert(case.call) {
+    /// Counts a failure, and keeps the smallest one of each call.
+    fn fail(&mut self, case: &Case, wrong: Wrong) {
+        if !self.wanted() {
             return;
         }
-        let small = match smaller {
-            Smaller::No => case.clone(),
-            _ => shrink(case, smaller == Smaller::WithRooms, &|case| message(case).is_some()),
-        };
-        println!("FAILED group {}, call {:?}, seed {:#x}, turn {}", self.group, case.call, self.plan.seed, self.turn);
-        println!("  case    {small}");
-        println!("  wrong   {}", message(&small).unwrap_or_default());
-        println!("  subject {}", small.run(self.subject));
-        println!("  second  {}", small.run(&Second::TRUE));
+        self.failed += 1;
+        if self.plan.reduced {
+            return;
+        }
+        let turn = self.turn;
+        match self.failures.get_mut(&case.call) {
+            None => {
+                println!("FAILED group {}, call {:?}, turn {turn}: shown when the group ends", self.group, case.call);
+                self.failures.insert(case.call, Failure { count: 1, case: case.clone(), wrong, turn });
+            }
+            Some(failure) => {
+                failure.count += 1;
+                if case.size() < failure.case.size() {
+                    *failure = Failure { count: failure.count, case: case.clone(), wrong, turn };
+                }
+            }
+        }
+    }
+
+    /// Shows the smallest failing case of each call, made smaller still, and the command that replays it.
+    pub fn show_failures(&self) {
+        for (call, failure) in &self.failures {
+            let fails = |case: &Case| failure.wrong.with(case, self.subject).is_some();
+            let (small, command) = match failure.wrong {
+                Wrong::Found(_) => {
+                    let turn = replay::turn_text(self.group, self.plan.seed, failure.turn);
+                    (failure.case.clone(), replay::command(&turn, self.plan.fault))
+                }
+                _ => {
+                    let rooms = matches!(failure.wrong, Wrong::Compared);
+                    let small = shrink(&failure.case, rooms, &fails);
+                    let command = replay::command(&replay::text(&small), self.plan.fault);
+                    (small, command)
+                }
+            };
+            println!(
+                "FAILED group {}, call {call:?}, {} cases; the smallest, of turn {}:",
+                self.group, failure.count, failure.turn
+            );
+            println!("  case    {small}");
+            println!("  wrong   {}", failure.wrong.with(&small, self.subject).unwrap_or_default());
+            println!("  subject {}", small.run(self.subject));
+            println!("  second  {}", small.run(&Second::TRUE));
+            println!("  again   {command}");
+        }
     }
 
     /// The group's line of the report.
@@ -174,10 +247,6 @@ impl<'a> Run<'a> {
         let mut line = format!("{:<9} {:>9} cases {:>4} failed {seconds:>7.1} s", self.group, self.cases, self.failed);
         for note in &self.notes {
             line += &format!("; {note}");
-        }
-        if !self.left_out.is_empty() {
-            let names: Vec<String> = self.left_out.iter().map(|call| format!("{call:?}")).collect();
-            line += &format!("; left out {}", names.join(" "));
         }
         line
     }

@@ -24,11 +24,9 @@ pub fn group(run: &mut Run) {
     // A stack that has been used is handed out again to a thread that asks for less: so the smallest go first.
     cases.sort_by_key(|case| most(case.call));
     for case in cases {
-        if run.can(case.call) {
-            run.count(1);
-            if on_small_stack(run, &case) != case.run(&Second::TRUE) {
-                run.fail_compared(&case);
-            }
+        run.count(1);
+        if on_small_stack(run, &case) != case.run(&Second::TRUE) {
+            run.fail_compared(&case);
         }
     }
 }

@@ -6,6 +6,7 @@ use crate::calls::Call;
 use crate::case::{Case, Outcome, Said};
 use crate::json::Json;
 use crate::lent::{Fill, Lent, Place, Room};
+use crate::replay;
 use crate::run::Run;
 
 const FILES: [&str; 10] = [
@@ -25,6 +26,8 @@ pub fn group(run: &mut Run) {
     for file in FILES {
         for vector in Json::parse(file).list() {
             let case = case_of(vector);
+            let again = replay::case_of(&replay::text(&case)).ok().as_ref() == Some(&case);
+            run.direct(&case, (!again).then(|| "the text of the case says another case".to_string()));
             let expected = expected_of(vector, &case);
             let about = vector.get("about").text();
             let truth = case.run(&Second::TRUE);

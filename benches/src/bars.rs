@@ -26,7 +26,7 @@ const CHECK: f64 = 6.0 / 7.0;
 /// What listing may take of the yardstick's time: at one level on smooth ground, and elsewhere.
 const LIST: (f64, f64) = (0.9, 1.4);
 
-/// Where nothing is crossed, listing may take a look a level, and this many more to count and to clear.
+/// Where nothing is crossed, listing may take as long as one pass over all samples for each level, and this many passes more to count and to clear.
 const BESIDES: f64 = 5.0;
 
 /// The comparison's time against the yardstick's, a C++ listing that is not part of this repository: the least of 25
@@ -47,7 +47,7 @@ const COMPARISON: [(&str, usize, f64); 11] = [
 
 impl Figures {
     /// Nanoseconds a sample and level.
-    pub fn look_time(&self) -> f64 {
+    pub fn time_by_level(&self) -> f64 {
         self.list * 1e9 / (self.samples * self.levels) as f64
     }
 
@@ -82,7 +82,7 @@ impl Figures {
 
 /// Every bar, with what was seen.
 pub fn all(seen: &[Figures]) -> Vec<Bar> {
-    let (flat, crossed): (Vec<&Figures>, Vec<&Figures>) = seen.iter().partition(|f| f.looks.is_some());
+    let (flat, crossed): (Vec<&Figures>, Vec<&Figures>) = seen.iter().partition(|f| f.passes.is_some());
     let mut bars: Vec<Bar> = crossed.iter().map(|f| f.list_bar()).collect();
     bars.extend(crossed.iter().filter_map(|f| f.paint_bar()));
     bars.push(slowest("check/plain loop", CHECK, &crossed, |g| g.check));
@@ -90,7 +90,7 @@ pub fn all(seen: &[Figures]) -> Vec<Bar> {
     bars.push(slowest("write/plain loop", CHECK / 2.0, &crossed, |g| g.write));
     bars.extend(flat.iter().filter_map(|f| {
         let levels = f.levels as f64;
-        Some(f.bar("list/looks", (BESIDES + levels) / levels, f.list / f.looks?))
+        Some(f.bar("list/passes", (BESIDES + levels) / levels, f.list / f.passes?))
     }));
     bars
 }

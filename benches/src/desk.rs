@@ -21,7 +21,7 @@ pub enum Call {
     /// The same check as a plain loop.
     PlainCheck,
     /// The least and the greatest of all samples, once a level.
-    Looks,
+    Passes,
 }
 
 pub struct Desk<'a> {
@@ -102,7 +102,7 @@ impl<'a> Desk<'a> {
             Call::Comparison => assert!(self.compare().is_some(), "the comparison lists the picture"),
             Call::Check => assert_eq!(self.read_damaged().number, 13, "a wrong check is refused"),
             Call::PlainCheck => assert_eq!(plain::right_blocks(&self.file), self.file.len() / 512),
-            Call::Looks => {
+            Call::Passes => {
                 for _ in &self.levels {
                     black_box(plain::ends(black_box(&self.picture.px)));
                 }

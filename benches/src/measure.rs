@@ -22,8 +22,8 @@ pub struct Figures {
     pub tree: Option<Beside>,
     /// None where the list is too long for a file, or empty.
     pub file: Option<FileFigures>,
-    /// One look at all samples for each level; only for a picture where nothing is crossed.
-    pub looks: Option<f64>,
+    /// One pass over all samples for each level; only for a picture where nothing is crossed.
+    pub passes: Option<f64>,
 }
 
 /// A call, timed in turns with listing.
@@ -55,8 +55,8 @@ pub fn whole(picture: &Picture, counts: &[usize], pace: Pace) -> Vec<Figures> {
         let mut desk = Desk::new(picture, levels(count));
         let mut figures = lists(picture, &mut desk, count, pace);
         if desk.words() == 0 {
-            let [looks] = pace.share(0.3).least([Call::Looks], |call| desk.run(call));
-            figures.looks = Some(looks);
+            let [passes] = pace.share(0.3).least([Call::Passes], |call| desk.run(call));
+            figures.passes = Some(passes);
         } else {
             figures.file = file(&mut desk, pace.share(0.5));
             // The tree takes about as long a word as it took for fewer levels.
@@ -100,7 +100,7 @@ fn lists(picture: &Picture, desk: &mut Desk, count: usize, pace: Pace) -> Figure
         paint,
         tree: None,
         file: None,
-        looks: None,
+        passes: None,
     }
 }
 

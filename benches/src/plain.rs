@@ -15,7 +15,7 @@ fn check(number: usize, payload: &[u8]) -> u32 {
     sum
 }
 
-/// One look at every sample: the least and the greatest.
+/// One pass over all samples: the least and the greatest.
 pub fn ends(px: &[u8]) -> (u8, u8) {
     px.iter().fold((255, 0), |(least, most), &v| (v.min(least), v.max(most)))
 }

@@ -63,10 +63,10 @@ pub fn trees(seen: &[Figures]) {
 }
 
 pub fn flat(seen: &[Figures]) {
-    let heads = format!("{:>21} {:>11}", "ns/sample and level", "list/looks");
-    rows("Nothing crossed; looks: the least and the greatest of all samples, once a level", &heads, seen, |f| {
-        let looks = f.looks?;
-        Some(format!("{:>21.3} {:>11.2}", f.look_time(), f.list / looks))
+    let heads = format!("{:>21} {:>11}", "ns/sample and level", "list/passes");
+    rows("Nothing crossed; passes: the least and the greatest of all samples, once a level", &heads, seen, |f| {
+        let passes = f.passes?;
+        Some(format!("{:>21.3} {:>11.2}", f.time_by_level(), f.list / passes))
     });
 }
 

@@ -12,7 +12,7 @@ pub enum Fault {
     EqualityRight,
     /// A lead must head S.
     LeadsSouthOnly,
-    /// Two crossings of a row are told apart by their columns only.
+    /// Two crossings of a row are compared by their columns only.
     ColumnsOnly,
     /// Only lines of the same level can be around a line.
     OwnLevelOnly,
@@ -32,7 +32,7 @@ pub enum Fault {
     RefusedWrites,
     /// A division by a negative number may return minus zero.
     MinusZero,
-    /// The corner is told without asking whether the centre is inside.
+    /// A corner is answered without asking whether the centre is inside.
     CornerOutside,
     /// Coordinates of a crossing are rounded once, not twice.
     RoundedOnce,

@@ -128,7 +128,7 @@ pub fn piece_bits(answer: Answer, piece: Piece) -> Said {
     Said::Piece { answer, name, floats: floats.into_iter().map(f64::to_bits).collect() }
 }
 
-/// Where a part lies in its list. Every empty part is told alike.
+/// Where a part lies in its list. Every empty part counts as the same.
 fn place_in(list: &[u32], part: &[u32]) -> Option<(usize, usize)> {
     if part.is_empty() {
         return Some((0, 0));

@@ -103,7 +103,7 @@ fn read(run: &mut Run, rng: &mut Rng, file: &[u8], places: usize) -> Option<Outc
     Some(outcome)
 }
 
-/// One byte changed to some other value: the check of its block tells it.
+/// One byte changed to some other value: its block is refused.
 fn one_byte(run: &mut Run, rng: &mut Rng, file: &[u8], at: usize) {
     if run.over() {
         return;
@@ -112,8 +112,8 @@ fn one_byte(run: &mut Run, rng: &mut Rng, file: &[u8], at: usize) {
     input[at] ^= rng.between(1, 255) as u8;
     let case = Case { call: Call::Read, input, places: Room::exact(rng, 200), ..Case::default() };
     if let Some(outcome) = run.check(&case) {
-        let told = outcome.said.answer().is_some_and(|a| a.number == 13 && a.place == (at / BLOCK) as u64);
-        run.direct(&case, (!told).then(|| format!("byte {at} was changed, and its block is not refused")));
+        let refused = outcome.said.answer().is_some_and(|a| a.number == 13 && a.place == (at / BLOCK) as u64);
+        run.direct(&case, (!refused).then(|| format!("byte {at} was changed, and its block is not refused")));
     }
 }
 

@@ -65,7 +65,7 @@ enum loafcanyon_number {
   LOAFCANYON_WORD = 8,         /* a code names no edgel of this size, or a word's level is not listed; place: the first such word,
                                   0 for a single code */
   LOAFCANYON_ROOM = 9,         /* room for fewer than w*h samples */
-  LOAFCANYON_NOT_CROSSED = 10, /* the level crosses neither that edgel nor, for a piece, any edgel of that cell */
+  LOAFCANYON_NOT_CROSSED = 10, /* the level does not cross that edgel; for a piece, no edgel of that cell */
   LOAFCANYON_NOT_THERE = 11,   /* there is no such line, sample or cell */
   LOAFCANYON_LENGTH = 12,      /* the file is empty, or not a multiple of 512 bytes */
   LOAFCANYON_CHECK = 13,       /* a block of the file is damaged; place: the first such block, from 0 */

@@ -1,4 +1,4 @@
--- The check, one byte at a time, and what it tells apart. Assumes nothing.
+-- The check, one byte at a time, and which payloads and blocks have different checks. Assumes nothing.
 -- Main laws: `stirred-more`, `stirred-next` one byte more, `stirred-all`, `stirred-end` no byte left; `stir-start`, `stir-byte` each step is injective in the sum and in the byte; `start-told` equal payloads with different starts
 --   have different sums; `byte-told` payloads that differ in one byte have, `set-told` the same for a byte stored; `number-told` equal payloads in blocks of different number have different checks;
 --   `check-below` a check has 32 bits.
@@ -63,7 +63,7 @@ pub check-below : (n : ℕ) (p : List ℕ) → check n p < 4294967296
 unfolding check
 check-below n p = stirred-below _ p (omega arith)
 
--- the sum's start is told by the sum
+-- over the same bytes, equal sums began equal
 pub start-told : (s t : ℕ) (l : List ℕ) → s < 4294967296 → t < 4294967296 → stirred s l ≡ stirred t l → s ≡ t
 unfolding stirred
 start-told s t [] g h e = e
@@ -74,14 +74,14 @@ unfolding stirred
 byte-told s [] a b y g h e = stir-byte s a b (omega arith) (omega arith) (start-told (stir s a) (stir s b) y (stir-below s a) (stir-below s b) e)
 byte-told s (c ∷ x) a b y g h e = byte-told (stir s c) x a b y g h e
 
--- a byte stored at a place is told by the check
+-- a stored byte that leaves the check the same is the byte that was there
 pub set-told : (n : ℕ) (p : List ℕ) (i b : ℕ) → i < length p → getD p i 0 < 256 → b < 256 → check n (set p i b) ≡ check n p → b ≡ getD p i 0
 unfolding check
 set-told n p i b l g h e =
     byte-told _ (take i p) b (getD p i 0) (drop (suc i) p) h g
     (ap (stirred _) (sym (set-split p i b l)) ∙ e ∙ ap (stirred _) (split-at p i 0 l))
 
--- the block's number is told by the check
+-- blocks with the same bytes and the same check have the same number
 pub number-told : (m n : ℕ) (p : List ℕ) → m < 4294967296 → n < 4294967296 → check m p ≡ check n p → m ≡ n
 unfolding check
 number-told m n p g h e =

@@ -1,6 +1,6 @@
 -- The order of positions as whole numbers is that of the exact fractions, column + num/den. Assumes nothing.
 -- Definitions: `num`, `den` the crossing's fraction of the way from the left end of its edgel, not reduced; `over P k c` the numerator of column + num/den over den. The order of two fractions is
---   told by cross-multiplication.
+--   decided by cross-multiplication.
 -- Main laws: `num-inside` a crossing is strictly between the ends; `num-order` on one edgel, where den is the same, the order is that of num; `by-column` a crossing in a lower column is left of
 --   one in a higher column; `key-order` on a row the keys are ordered as the fractions; `key-once` no two crossings of a row have equal fractions.
 use mathlib.Core.Path.{_≡_, sym, ap, _∙_}

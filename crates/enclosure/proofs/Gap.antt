@@ -1,4 +1,4 @@
--- The height just beside a crossing, told by the levels below it, and by counting all crossings to its left. Assumes nothing.
+-- The height just beside a crossing, from the levels below it, and by counting all crossings to its left. Assumes nothing.
 -- Definitions: `leftGap P k c`, `rightGap P k c` the height just left and just right of the crossing of level k on c: the levels below it are high there.
 -- Main laws: `state` which levels are high just left of a crossing, by counting; `gaps-other`, `gaps-own` the two gaps differ at the crossing's own level only; `gap-own` the left gap is above
 --   the level exactly if the left end is high; `step-gap` no listed level lies between the right gap of a crossing and the left gap of the next listed one.

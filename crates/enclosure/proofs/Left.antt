@@ -1,5 +1,5 @@
 -- What stands left of a crossing: counted along its row, it is the side of one end of the crossing's edgel. Assumes nothing.
--- Definitions: none of its own. A mark M is told by a list that holds each marked code once.
+-- Definitions: none of its own. A mark M is given by a list that holds each marked code once.
 -- Main laws: `left-marks` the odd count left of a crossing by the mark's side at the edgel's left end and the mark on the edgel itself; `ends` the low and the high end of a crossed horizontal
 --   edgel; `left-below`, `left-above`, `left-level` for a mark of a lower level it is the side of the high end, for a higher one that of the low end, for the same level that of the left end;
 --   `low-falls`, `low-rises` the low end's side from the left end's; `onward-same`, `onward-turn` left of two crossings of a row with no word, or with one word, between them; `left-none`.

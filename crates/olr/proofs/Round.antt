@@ -181,7 +181,7 @@ module _ (w h v : ℕ) (ks ws room : List ℕ) (below : Below 4294967296 ws) (do
       ap (take (fileLength w h v ks ws)) (done-after (writeVerdict w h v ks ws room) room (it ++ drop (fileLength w h v ks ws) room) done)
       ∙ take-at it (drop (fileLength w h v ks ws) room) (fileLength w h v ks ws) (file-length w h v ks ws few)
 
--- inputs that writing accepts are told apart by their files
+-- different inputs that writing accepts have different files
 pub file-told : (w h v : ℕ) (ks ws room : List ℕ) (w′ h′ v′ : ℕ) (ks′ ws′ room′ : List ℕ) → Below 4294967296 ws → Below 4294967296 ws′ → writeVerdict w h v ks ws room .number ≡ 0
     → writeVerdict w′ h′ v′ ks′ ws′ room′ .number ≡ 0 → file w h v ks ws ≡ file w′ h′ v′ ks′ ws′ → (w ≡ w′) × (h ≡ h′) × (v ≡ v′) × (ks ≡ ks′) × (ws ≡ ws′)
 file-told w h v ks ws room w′ h′ v′ ks′ ws′ room′ b b′ d d′ e =

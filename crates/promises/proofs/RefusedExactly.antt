@@ -175,7 +175,7 @@ none-left n ws e =
 pub part-exactly : (n : ℕ) (ws : List ℕ) → (part eight n ws ≡ []) ↔ (tally (flagged eight) ws ≤ n)
 part-exactly n ws = (λ e. none-left n ws (ap (λ (l : List ℕ). length l) e), part-empty eight n ws)
 
--- ---- the calls for C whose answers are told in another form
+-- ---- the calls for C whose answers have another form
 pub c-piece-exactly : (P : Picture) (k x y : ℕ) → Exactly (1 ∷ 2 ∷ 3 ∷ 11 ∷ 10 ∷ []) (pieceRows P k x y eight) (toldPiece (pieceAnswer P k x y eight) .answer)
 c-piece-exactly = piece-exactly
 

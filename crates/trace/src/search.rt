@@ -59,7 +59,7 @@ fn least_in(px: &[u8], work: &[u8], a: usize, k: u8, mark: u8) -> u8
     m
 }
 
-// The same; most blocks that the level enters have none left, which is sooner seen.
+// The same. Most blocks that the level enters have no fresh place left, and asking that first is faster.
 fn seen_in(px: &[u8], work: &[u8], a: usize, k: u8, mark: u8) -> u8
     requires { ⌜ (a + 64 < length (now px)) × (a + 64 ≤ length (now work)) × (length (now px) ≤ 4194304) × (mark ≡ k + 1) ⌝ }
     ensures { λ r. ⌜ FirstIn (now (px .entry)) (now (work .entry)) k a r ⌝ }

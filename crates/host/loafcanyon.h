@@ -24,8 +24,8 @@
  * For any input that keeps these rules a call ends, without a fault, with the answer that its contract says: bad pictures, levels,
  * words and files are refused by a number.
  *
- * How to lend enough. Ask with a count of 0: the call is refused, and the answer's place is the count that it needs. Lend that
- * many, and call again. Where nothing is needed, the first call is done already.
+ * How to lend enough. Ask with a count of 0: the call is refused by 6 (7 for tree places, 15 for a file), and the answer's place is
+ * the count that it needs. Lend that many, and call again. Where nothing is needed, the first call is done already.
  *
  * Threads. Calls share nothing and keep nothing, so any number of threads may call at once. Buffers that are only read may be shared;
  * one that a call may write belongs to that call until it returns.

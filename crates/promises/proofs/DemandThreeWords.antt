@@ -1,16 +1,16 @@
 -- The customer's third demand, of the words: line n of the list that the list call writes, as the line part call hands it over and as the membership call counts it. Assumes nothing.
 -- Definitions: `lineTotal P ks` the number of lines that the list call answers; `lineAt P ks n` line n of its words.
 -- Main laws: `part-is-line` line n is the words of the n-th line, levels in order and on each its lines in order; `part-of-level` that is a line of a listed level, and `line-is-part` every line of a
---   listed level is there; `inside-is-odd` membership in line n counts as the demand does, and `member-is-odd` so does the call's answer; hence the demand's sentences of words: `words-row-as-column`
+--   listed level is there; `starts-flagged` no word stands before the first line, `level-each` the words of a line have its level; `inside-is-odd` membership in line n counts as the demand does, and `member-is-odd` so does the call's answer; hence the demand's sentences of words: `words-row-as-column`
 --   counting along the row or the column gives the same odd or even, `words-differ-east`, `words-differ-south` neighbours differ exactly if a word of the line is between them.
-use mathlib.Core.Path.{_≡_, refl, sym, ap, _∙_}
+use mathlib.Core.Path.{_≡_, refl, sym, ap, subst, _∙_}
 use mathlib.Core.Bool.{Bool, true, false, not, _&&_}
 use mathlib.Core.List.{List, [], _∷_, _++_, map}
 use Prim.Native.Nat.{ℕ, zero, suc, _/_, _%_, _<_}
 use native.Mathlib.Omega.{arith}
 use lib.Dec.{eqb, ltb}
 use lib.ListN.{length, getD}
-use borrow.Author.Tests.{lt-ltb, ltb-true}
+use borrow.Author.Tests.{eqb-true, lt-ltb, ltb-true}
 use Rattle.tally.specs.Tally.{odd, differ, count, stands, tally, firstAt, flat}
 use Rattle.tally.proofs.Test.{by-test, no, both, and-1}
 use Rattle.tally.proofs.Count.{count-self, count-later, count-at, tally-eq}
@@ -92,6 +92,15 @@ module _ (L : Layout) where
   tally-codes p k b [] N = refl
   tally-codes p k b (c ∷ l) N = rw (code-word L c k b (head-low k c l N), tally-codes p k false l (tail-low k c l N))
 
+  -- and all have its level
+  levels-one : (k : ℕ) (b : Bool) (l : List ℕ) → Narrow L k l → (u : ℕ) → 0 < count u (encode L k b l) → levelOf L u ≡ k
+  unfolding count encode
+  levels-one k b [] N u a = absurd (omega arith)
+  levels-one k b (c ∷ l) N u a =
+      by-test (eqb u (word L c k b))
+      (λ e. ap (levelOf L) (eqb-true u (word L c k b) e) ∙ level-word L c k b (head-low k c l N) (N .level))
+      (λ e. levels-one k false l (tail-low k c l N) u (omega (arith, rw e at a)))
+
   level-first : (k : ℕ) (l : List ℕ) → Narrow L k l → 0 < length l → levelOf L (getD (encode L k true l) 0 0) ≡ k
   unfolding encode
   level-first k [] N h = absurd (omega arith)
@@ -154,6 +163,14 @@ module _ (P : Picture) (ks : List ℕ) (S : Scan P ks) where
       record { narrow = narrow-at setting; long = long-at setting }
       (numbered n h)
 
+  -- no word stands before the first flag
+  pub starts-flagged : rest eight (listed eight P ks) ≡ []
+  unfolding levelAt leadAt
+  starts-flagged =
+      ap (rest eight) (sym (firsts-words eight P (fits P ks S .room) ks))
+      ∙ rest-lines eight (λ x. x / eight .codes) (λ x. line P (x / eight .codes) (x % eight .codes)) (firsts eight P ks)
+      record { narrow = narrow-at setting; long = long-at setting }
+
   -- line n of the list is line m of its level, and that is listed
   pub part-of-level : (n : ℕ) → n < lineTotal P ks
       → (m : ℕ) × (m < length (lines P (levelAt eight P ks n))) × (getD (lines P (levelAt eight P ks n)) m [] ≡ crossingsAt eight P ks n) × (0 < count (levelAt eight P ks n) ks)
@@ -187,6 +204,10 @@ module _ (P : Picture) (ks : List ℕ) (S : Scan P ks) where
     pub inside-is-odd : (x y : ℕ) → inside eight (P .w) (lineAt P ks n) x y ≡ oddWest (P .w) (crossingsAt eight P ks n) x y
     unfolding inside
     inside-is-odd x y = ap odd (codes-tallied (westOf (P .w) x y))
+
+    -- a line has one level
+    pub level-each : (u : ℕ) → 0 < count u (lineAt P ks n) → levelOf eight u ≡ levelAt eight P ks n
+    level-each u a = levels-one eight (lv n) true (cs n) (narrow-at setting n (numbered n h)) u (subst (λ (l : List ℕ). 0 < count u l) (part-is-line n h) a)
 
     pub level-is : levelOf eight (getD (lineAt P ks n) 0 0) ≡ levelAt eight P ks n
     level-is =

@@ -6,6 +6,7 @@ pub mod RefusedExactly
 pub mod DemandThree
 pub mod DemandThreeWords
 pub mod DemandThreeBorder
+pub mod DemandThreeEach
 pub mod DemandTwoList
 pub mod DemandTwoPaint
 pub mod DemandTwoFile

@@ -7,6 +7,7 @@ pub mod DemandThree
 pub mod DemandThreeWords
 pub mod DemandThreeBorder
 pub mod DemandThreeEach
+pub mod Neighbours
 pub mod DemandTwoList
 pub mod DemandTwoPaint
 pub mod DemandTwoFile

@@ -3,6 +3,7 @@ pub mod OneAnswer
 pub mod NoNan
 pub mod DemandOne
 pub mod RefusedExactly
+pub mod RefusedKeeps
 pub mod DemandThree
 pub mod DemandThreeWords
 pub mod DemandThreeBorder

@@ -97,7 +97,7 @@ given-row (r ∷ rs) zero e = omega arith
 given-row (r ∷ rs) (suc i) e = omega (arith, given-row rs i e)
 
 -- the answer's number is the verdict's
-same-number : (v : Verdict) (words lines : ℕ) → answer v words lines .number ≡ v .number
+pub same-number : (v : Verdict) (words lines : ℕ) → answer v words lines .number ≡ v .number
 same-number v words lines = go (v .number)
   where
     go : (n : ℕ) → answer (record { number = n; place = v .place }) words lines .number ≡ n
@@ -183,7 +183,7 @@ pub c-part-exactly : (n : ℕ) (ws : List ℕ) → (partPlace n ws .count ≡ 0)
 c-part-exactly n ws = (none-left n ws, λ h. ap (λ (l : List ℕ). length l) (part-empty eight n ws h))
 
 -- ---- refused, every further number is 0, a yes or no is no, and the piece says so
-refuses : (v : Verdict) (words lines : ℕ) → answer v words lines .number ≢ 0 → v .number ≢ 0
+pub refuses : (v : Verdict) (words lines : ℕ) → answer v words lines .number ≢ 0 → v .number ≢ 0
 refuses v words lines q z = q (same-number v words lines ∙ z)
 
 pub crossing-nothing : (P : Picture) (k c : ℕ) → crossingAnswer P k c eight .answer .number ≢ 0

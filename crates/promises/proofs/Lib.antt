@@ -7,6 +7,7 @@ pub mod RefusedKeeps
 pub mod DemandThree
 pub mod DemandThreeWords
 pub mod DemandThreeBorder
+pub mod DoneHolds
 pub mod DemandThreeEach
 pub mod Neighbours
 pub mod DemandTwoList

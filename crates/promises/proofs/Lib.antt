@@ -1,6 +1,8 @@
 pub mod SmallPictures
 pub mod OneAnswer
+pub mod EachFloat
 pub mod NoNan
+pub mod NoMinusZero
 pub mod DemandOne
 pub mod RefusedExactly
 pub mod RefusedKeeps

@@ -1,7 +1,7 @@
 -- A property of every float that an answer holds: the crossing and the piece are the only calls with floats. Assumes nothing; the premises hold of all samples, which are bytes, and of every code, which is a u32.
 -- Definitions: `Bytes` the samples are bytes; `noneOf` no float of a list passes a test.
 -- Main laws: `crossing-each` a test that neither a whole number nor a coordinate moved along an edgel passes, neither coordinate of the crossing's answer passes; `piece-each` one that no quotient of whole numbers passes, no
---   float of the piece's answer passes. `held` binary64 holds the whole numbers up to 2^53.
+--   float of the piece's answer passes, and `told-each` none of the answer for C. `held` binary64 holds the whole numbers up to 2^53.
 use mathlib.Core.Path.{_≡_, refl, subst}
 use mathlib.Core.Bool.{Bool, true, false, not, _&&_, cond}
 use mathlib.Core.List.{List, [], _∷_}
@@ -14,20 +14,22 @@ use lib.IntN.{ℤ, pos, negsuc, negℤ, natAbs, _-ℤ_, _*ℤ_}
 use lib.Ieee.{Float, binary64, div, ofInt}
 use lib.Ieee.Exact.{HasValue}
 use lib.Ieee.Back.{round-whole}
-use borrow.Author.Tests.{eqb-true, eqb-false, ne-eqb}
-use Rattle.tally.proofs.Test.{by-test, no}
+use borrow.Author.Tests.{not-true, eqb-true, eqb-false, ne-eqb}
+use Rattle.tally.proofs.Test.{by-test, no, and-1, and-2}
 use Rattle.matte.specs.declared.Verdict.{Verdict}
 use Rattle.matte.specs.Layout.{eight}
 use Rattle.matte.specs.Picture.{Picture, at}
-use Rattle.edgel.specs.Edgel.{horizontal, first, second, column}
+use Rattle.edgel.specs.Edgel.{horizontal, column}
 use Rattle.edgel.specs.Edgel as Edgel
 use Rattle.cell.proofs.Signed.{Is, is-pos, is-neg, is-sub, is-mul}
 use Rattle.crossing.specs.Crossing.{whole, along, num, den, crossingVerdict, crossingAnswer}
 use Rattle.crossing.proofs.Between.{done-between}
 use Rattle.piece.specs.declared.Centre.{Centre}
+use Rattle.piece.specs.declared.Found.{Found}
 use Rattle.piece.specs.declared.Piece.{Piece}
 use Rattle.piece.specs.declared.Piece.the-variants.{Refused, Straight, Corner, Branch}
 use Rattle.piece.specs.Piece.{isZero, ratio, b, c, d, s, inside, centre, excess, delta, pieceOf, caseValues, cellAt, pieceVerdict, pieceAnswer}
+use Rattle.host.specs.Piece.{first, second, third, toldPiece}
 
 -- samples are bytes
 abbrev pub Bytes : Picture → Type 0
@@ -55,7 +57,7 @@ module _ (t : Float → Bool) (wholes : (n : ℕ) → t (whole n) ≡ false) (al
 
     den-few : den P k c ≤ 2 ^ 53
     unfolding den
-    den-few = omega (arith, bytes (first c), bytes (second (P .w) c))
+    den-few = omega (arith, bytes (Edgel.first c), bytes (Edgel.second (P .w) c))
 
     column-few : column (P .w) c ≤ 2 ^ 53
     column-few = omega (arith, mod-le (c / 2) (P .w), div-le-self c 2)
@@ -157,3 +159,20 @@ module _ (t : Float → Bool) (k : ℕ) (quotients : (z : ℤ) (n : ℕ) → 0 <
       either (λ (p : Piece). noneOf t (caseValues p)) (eqb (pieceVerdict P k x y eight .number) 0)
       (pieceOf (at P i) (at P (i + P .w)) (at P (i + P .w + 1)) (at P (i + 1)) k) Refused
       (of-each (at P i) (at P (i + P .w)) (at P (i + P .w + 1)) (at P (i + 1)) (bytes i) (bytes (i + P .w)) (bytes (i + P .w + 1)) (bytes (i + 1))) refl
+
+-- ---- the piece as plain numbers
+module _ (t : Float → Bool) (wholes : (n : ℕ) → t (whole n) ≡ false) where
+  in-first : (l : List Float) → noneOf t l ≡ true → t (first l) ≡ false
+  in-first [] e = wholes 0
+  in-first (x ∷ l) e = not-true (t x) (and-1 (not (t x)) (noneOf t l) e)
+
+  in-second : (l : List Float) → noneOf t l ≡ true → t (second l) ≡ false
+  in-second [] e = wholes 0
+  in-second (x ∷ l) e = in-first l (and-2 (not (t x)) (noneOf t l) e)
+
+  in-third : (l : List Float) → noneOf t l ≡ true → t (third l) ≡ false
+  in-third [] e = wholes 0
+  in-third (x ∷ l) e = in-second l (and-2 (not (t x)) (noneOf t l) e)
+
+  pub told-each : (f : Found) → noneOf t (caseValues (f .piece)) ≡ true → noneOf t (toldPiece f .xs ∷ toldPiece f .ys ∷ toldPiece f .delta ∷ []) ≡ true
+  told-each f e = let l = caseValues (f .piece) in rw (in-first l e, in-second l e, in-third l e) refl

@@ -1,8 +1,9 @@
 -- No answer holds −0: a float whose value is zero has the sign of +0. Assumes nothing; the premises hold of all samples and levels, which are bytes, and of every code, which is a u32.
 -- Definitions: `minusZero` a float is −0.
--- Main laws: `crossing-plus` neither coordinate of the crossing's answer is −0, `piece-plus` no float that the piece's answer holds is.
+-- Main laws: `crossing-plus` neither coordinate of the crossing's answer is −0, `piece-plus` no float that the piece's answer holds is, `c-piece-plus` nor that of the call for C.
 use mathlib.Core.Path.{_≡_, refl, sym, ap, subst, _∙_}
 use mathlib.Core.Bool.{Bool, true, false, _&&_, cond, Bool·beq}
+use mathlib.Core.List.{[], _∷_}
 use Prim.Native.Nat.{ℕ, zero, suc, compare, _+_, _-_, _*_, _/_, _%_, _^_, _≤_, _<_}
 use native.Mathlib.Nat.{zero-mul, one-mul, mul-one, mul-pos, mul-comm, mul-assoc, mul-le-mul-right, le-trans, div-div-eq-div-mul, le-div-iff-mul-le}
 use native.Mathlib.Omega.{arith}
@@ -21,7 +22,8 @@ use Rattle.matte.specs.Layout.{eight}
 use Rattle.matte.specs.Picture.{Picture}
 use Rattle.crossing.specs.Crossing.{whole, along, crossingAnswer}
 use Rattle.piece.specs.Piece.{caseValues, pieceAnswer}
-use Rattle.promises.proofs.EachFloat.{Bytes, noneOf, either, held, crossing-each, piece-each}
+use Rattle.host.specs.Piece.{toldPiece}
+use Rattle.promises.proofs.EachFloat.{Bytes, noneOf, either, held, crossing-each, piece-each, told-each}
 
 -- its value is zero, and its sign is minus
 abbrev pub minusZero : Float → Bool
@@ -154,13 +156,20 @@ unfolding ofInt
 quotient-not (pos m) n p h g = plus-is (div binary64 (ofInt binary64 (pos m)) (ofInt binary64 (pos n))) (div-plus binary64 (ofInt binary64 (pos m)) (ofInt binary64 (pos n)) (whole-plus m) (whole-plus n))
 quotient-not (negsuc m) n p h g = over-not (ofInt binary64 (negsuc m)) (ofInt binary64 (pos n)) (suc m) n (round-whole binary64 true (suc m) g) (held n h) (omega arith) p h
 
+whole-not : (n : ℕ) → minusZero (whole n) ≡ false
+whole-not n = plus-is (whole n) (whole-plus n)
+
 along-not : (n a b : ℕ) → minusZero (along n a b) ≡ false
 unfolding along
 along-not n a b = plus-is (add binary64 (whole n) (div binary64 (whole a) (whole b))) (add-plus binary64 (whole n) (div binary64 (whole a) (whole b)) (whole-plus n) (div-plus binary64 (whole a) (whole b) (whole-plus a) (whole-plus b)))
 
 -- ---- the calls
 pub crossing-plus : (P : Picture) → Bytes P → (k c : ℕ) → c < 2 ^ 32 → (minusZero (crossingAnswer P k c eight .x) ≡ false) × (minusZero (crossingAnswer P k c eight .y) ≡ false)
-crossing-plus P bytes k c code = crossing-each minusZero (λ n. plus-is (whole n) (whole-plus n)) (λ n a b h p q. along-not n a b) P bytes k c code
+crossing-plus P bytes k c code = crossing-each minusZero whole-not (λ n a b h p q. along-not n a b) P bytes k c code
 
 pub piece-plus : (P : Picture) → Bytes P → (k x y : ℕ) → k < 256 → noneOf minusZero (caseValues (pieceAnswer P k x y eight .piece)) ≡ true
 piece-plus P bytes k x y l = piece-each minusZero k (λ z n p q h. quotient-not z n p q (h l)) P bytes x y
+
+pub c-piece-plus : (P : Picture) → Bytes P → (k x y : ℕ) → k < 256
+    → let f = toldPiece (pieceAnswer P k x y eight) in noneOf minusZero (f .xs ∷ f .ys ∷ f .delta ∷ []) ≡ true
+c-piece-plus P bytes k x y l = told-each minusZero whole-not (pieceAnswer P k x y eight) (piece-plus P bytes k x y l)

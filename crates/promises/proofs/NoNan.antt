@@ -1,8 +1,9 @@
 -- No answer holds a float that is no number. Two floats are equal here exactly if their bits are, but for those that are no number, of which there is one for all patterns: so the contracts settle every float bit for bit.
 -- Assumes nothing; the premises hold of all samples, which are bytes, and of every code, which is a u32.
--- Main laws: `crossing-numbers` both coordinates of the crossing's answer, `piece-numbers` every float that the piece's answer holds.
+-- Main laws: `crossing-numbers` both coordinates of the crossing's answer, `piece-numbers` every float that the piece's answer holds, `c-piece-numbers` that of the call for C.
 use mathlib.Core.Path.{_≡_, refl}
 use mathlib.Core.Bool.{Bool, true, false, _&&_, cond, Bool·beq}
+use mathlib.Core.List.{[], _∷_}
 use Prim.Native.Nat.{ℕ, zero, suc, _+_, _-_, _*_, _^_, _≤_, _<_}
 use native.Mathlib.Nat.{zero-mul, mul-pos}
 use native.Mathlib.Omega.{arith}
@@ -16,7 +17,8 @@ use Rattle.matte.specs.Layout.{eight}
 use Rattle.matte.specs.Picture.{Picture}
 use Rattle.crossing.specs.Crossing.{whole, along, crossingAnswer}
 use Rattle.piece.specs.Piece.{caseValues, pieceAnswer}
-use Rattle.promises.proofs.EachFloat.{Bytes, noneOf, either, held, crossing-each, piece-each}
+use Rattle.host.specs.Piece.{toldPiece}
+use Rattle.promises.proofs.EachFloat.{Bytes, noneOf, either, held, crossing-each, piece-each, told-each}
 
 -- ---- the operations
 odd-number : (d : ℕ) (s : Bool) (q k l : ℕ) → isNan (odd d s q k l) ≡ false
@@ -81,3 +83,7 @@ crossing-numbers P bytes k c code = crossing-each isNan (λ n. int-number (pos n
 
 pub piece-numbers : (P : Picture) → Bytes P → (k x y : ℕ) → noneOf isNan (caseValues (pieceAnswer P k x y eight .piece)) ≡ true
 piece-numbers P bytes k x y = piece-each isNan k (λ z n p q h. over-number z n p q) P bytes x y
+
+pub c-piece-numbers : (P : Picture) → Bytes P → (k x y : ℕ)
+    → let f = toldPiece (pieceAnswer P k x y eight) in noneOf isNan (f .xs ∷ f .ys ∷ f .delta ∷ []) ≡ true
+c-piece-numbers P bytes k x y = told-each isNan (λ n. int-number (pos n)) (pieceAnswer P k x y eight) (piece-numbers P bytes k x y)

@@ -12,6 +12,7 @@ pub mod DemandThreeBorder
 pub mod DoneHolds
 pub mod DemandThreeEach
 pub mod Neighbours
+pub mod Positions
 pub mod DemandTwoList
 pub mod DemandTwoPaint
 pub mod DemandTwoFile

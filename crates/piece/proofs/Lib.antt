@@ -5,4 +5,6 @@ pub mod Told
 pub mod Small
 pub mod Cases
 pub mod Inside
+pub mod Ring
+pub mod Surface
 pub mod Saddle

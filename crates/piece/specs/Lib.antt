@@ -1,2 +1,3 @@
 pub mod Piece
 pub mod Curve
+pub mod Surface

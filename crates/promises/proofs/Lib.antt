@@ -13,6 +13,7 @@ pub mod DoneHolds
 pub mod DemandThreeEach
 pub mod Neighbours
 pub mod Positions
+pub mod SaddleDecides
 pub mod DemandTwoList
 pub mod DemandTwoPaint
 pub mod DemandTwoFile

@@ -1,7 +1,7 @@
 -- The surface of a cell: its corners, its centre and its level lines, with denominators cleared. The point is (u/m, v/m) from the top left corner, and `height` is m² times the surface there. Assumes nothing.
 -- Main laws: `at-corners` at the corners it is the samples; `height-form` it is p0 + b·x + c·y + d·x·y; `product-form` d times it is s + (d·x + c)·(d·y + b), so it is s/d + d·(x − xs)·(y − ys); `centre-height` at the centre it
 --   is s/d, and `centre-level` above or below the level by the sign of (2k+1)·d − 2s, turned over where d is positive; `level-form`, `on-branch` it has the height k + 1/2 exactly where (x − xs)·(y − ys) = δ; `on-corner` where the level meets the saddle, exactly where x = xs or y = ys; `on-straight` where d = 0 it is a plane;
---   `height-turned` the corners named from another side are those of the same surface.
+--   `height-turned`, `centre-turned` the corners named from another side are those of the same surface, with the same height at the centre.
 use mathlib.Core.Path.{_≡_, refl, sym, ap, _∙_}
 use mathlib.Core.List.{List, [], _∷_}
 use mathlib.Core.Logic.{_↔_}
@@ -136,3 +136,15 @@ unfolding equal
 centre-level p0 p1 p2 p3 k =
     let x = con (pos 2) in
     solve (pos p0 ∷ pos p1 ∷ pos p2 ∷ pos p3 ∷ pos (2 * k + 1) ∷ []) (minus (times x (atE dE (neg cE) (neg bE))) (times (q 4) (times dE dE))) (times (neg dE) (minus (times (q 4) dE) (times x sE))) refl
+
+-- the same from every side: d and s both change sign with a quarter turn
+pub centre-turned : (p0 p1 p2 p3 k : ℕ)
+    → pos 2 *ℤ height p1 p2 p3 p0 (d p1 p2 p3 p0) (negℤ (c p1 p2 p3 p0)) (negℤ (b p1 p2 p3 p0)) -ℤ pos (2 * k + 1) *ℤ (d p1 p2 p3 p0 *ℤ d p1 p2 p3 p0)
+    ≡ pos 2 *ℤ height p0 p1 p2 p3 (d p0 p1 p2 p3) (negℤ (c p0 p1 p2 p3)) (negℤ (b p0 p1 p2 p3)) -ℤ pos (2 * k + 1) *ℤ (d p0 p1 p2 p3 *ℤ d p0 p1 p2 p3)
+unfolding equal
+centre-turned p0 p1 p2 p3 k =
+    let x = con (pos 2) in
+    let y = minus (plus (q 1) (q 3)) (plus (q 2) (q 0)) in
+    solve (pos p0 ∷ pos p1 ∷ pos p2 ∷ pos p3 ∷ pos (2 * k + 1) ∷ [])
+    (minus (times x (heightE (q 1) (q 2) (q 3) (q 0) y (neg (minus (q 2) (q 1))) (neg (minus (q 0) (q 1))))) (times (q 4) (times y y)))
+    (minus (times x (atE dE (neg cE) (neg bE))) (times (q 4) (times dE dE))) refl

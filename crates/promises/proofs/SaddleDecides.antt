@@ -1,6 +1,6 @@
 -- In a cell whose high corners face each other the saddle decides: the line turns by whether its level is below the surface at the cell's centre. Assumes nothing.
 -- Definitions: `heightOf` the surface of a cell by its named corners; `belowCentre` the level is below it at the centre; `seenFrom` a point of the cell as it lies from the entry.
--- Main laws: `saddle-decides` right if the level is below, otherwise left, for every heading; `entry-height` the corners named from any entry are those of one surface; `two-ways` there d is negative.
+-- Main laws: `saddle-decides` right if the level is below, otherwise left, for every heading; `entry-height`, `one-centre` the corners named from any entry are those of one surface, with one height at the centre; `two-ways` there d is negative.
 use mathlib.Core.Path.{_≡_, refl, sym, ap, subst, _∙_}
 use mathlib.Core.Bool.{Bool, true, false, cond}
 use mathlib.Core.List.{List, [], _∷_}
@@ -20,7 +20,7 @@ use Rattle.piece.specs.Piece.{b, c, d}
 use Rattle.piece.specs.Curve.{above}
 use Rattle.piece.specs.Surface.{height}
 use Rattle.piece.proofs.Ring.{var, minus, equal, solve}
-use Rattle.piece.proofs.Surface.{height-turned}
+use Rattle.piece.proofs.Surface.{height-turned, centre-turned}
 use Rattle.piece.proofs.Saddle.{d-below, saddle-height}
 use Rattle.promises.proofs.DemandThree.{Scan, B}
 
@@ -63,6 +63,23 @@ module _ (P : Picture) (t : ℕ) (m u v : ℤ) where
   entry-height East = from-east
   entry-height North = from-north
   entry-height West = from-west
+
+-- and the level is below the centre, or not, from every entry
+module _ (P : Picture) (t : ℕ) where
+  centre-east : (k : ℕ) → belowCentre k (corners P East t) ≡ belowCentre k (corners P South t)
+  centre-east k = ap above (centre-turned (at P t) (at P (t + P .w)) (at P (t + P .w + 1)) (at P (t + 1)) k)
+
+  centre-north : (k : ℕ) → belowCentre k (corners P North t) ≡ belowCentre k (corners P South t)
+  centre-north k = ap above (centre-turned (at P (t + P .w)) (at P (t + P .w + 1)) (at P (t + 1)) (at P t) k) ∙ centre-east k
+
+  centre-west : (k : ℕ) → belowCentre k (corners P West t) ≡ belowCentre k (corners P South t)
+  centre-west k = ap above (centre-turned (at P (t + P .w + 1)) (at P (t + 1)) (at P t) (at P (t + P .w)) k) ∙ centre-north k
+
+  pub one-centre : (k : ℕ) (g : Heading) → belowCentre k (corners P g t) ≡ belowCentre k (corners P South t)
+  one-centre k South = refl
+  one-centre k East = centre-east k
+  one-centre k North = centre-north k
+  one-centre k West = centre-west k
 
 -- a crossing of the level that enters the cell t with heading g, its far corner at the right hand high and the other low
 module _ (P : Picture) (ks : List ℕ) (S : Scan P ks) (k e : ℕ) (o : cutAt P k e ≡ true) (g : Heading) (t : ℕ) (A : At P k e g t) (h1 : ltb k (corners P g t .p1) ≡ true) (h2 : ltb k (corners P g t .p2) ≡ false) where

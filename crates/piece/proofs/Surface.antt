@@ -1,4 +1,5 @@
 -- The surface of a cell: its corners, its centre and its level lines, with denominators cleared. The point is (u/m, v/m) from the top left corner, and `height` is m² times the surface there. Assumes nothing.
+-- Definitions: `heightE` the surface as an expression, for laws that are decided by working both sides out.
 -- Main laws: `at-corners` at the corners it is the samples; `height-form` it is p0 + b·x + c·y + d·x·y; `product-form` d times it is s + (d·x + c)·(d·y + b), so it is s/d + d·(x − xs)·(y − ys); `centre-height` at the centre it
 --   is s/d, and `centre-level` above or below the level by the sign of (2k+1)·d − 2s, turned over where d is positive; `level-form`, `on-branch` it has the height k + 1/2 exactly where (x − xs)·(y − ys) = δ; `on-corner` where the level meets the saddle, exactly where x = xs or y = ys; `on-straight` where d = 0 it is a plane;
 --   `height-turned`, `centre-turned` the corners named from another side are those of the same surface, with the same height at the centre.
@@ -16,7 +17,8 @@ use Rattle.piece.proofs.Ring.{Expr, con, var, plus, times, neg, minus, 
 abbrev q : ℕ → Expr
 q i = var i
 
-abbrev heightE : Expr → Expr → Expr → Expr → Expr → Expr → Expr → Expr
+-- the surface
+abbrev pub heightE : Expr → Expr → Expr → Expr → Expr → Expr → Expr → Expr
 heightE p0 p1 p2 p3 m u v =
     plus (plus (plus (times p0 (times (minus m u) (minus m v))) (times p3 (times u (minus m v)))) (times p1 (times (minus m u) v))) (times p2 (times u v))
 

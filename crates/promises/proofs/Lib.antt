@@ -14,6 +14,7 @@ pub mod DemandThreeEach
 pub mod Neighbours
 pub mod Positions
 pub mod SaddleDecides
+pub mod OnSurface
 pub mod DemandTwoList
 pub mod DemandTwoPaint
 pub mod DemandTwoFile

@@ -1,8 +1,9 @@
 -- The customer's first demand, of lent memory, as the caller sees it: where a call answers with a number that is not 0, all that it was handed is as it was. Assumes nothing.
 -- It is said of the contracts themselves, as in OneAnswer.
--- Definitions: `Keeps` whatever result with a number other than 0 and last contents a contract allows, they are the first contents.
--- Main laws: `list-keeps` and so on, one for each call that is lent memory to write to, and for its call for C. The crossing, the piece, the line part and membership are lent nothing to write to.
-use mathlib.Core.Path.{_≡_, ap, _∙_}
+-- Definitions: `Keeps` whatever result with a number other than 0 and last contents a contract allows, they are the first contents; `OnlyReads` they are with any result.
+-- Main laws: `list-keeps` and so on, one for each call that is lent memory to write to, and for its call for C; `crossing-reads` and so on, the calls that are lent nothing to write to leave all as it was, whatever they
+--   answer.
+use mathlib.Core.Path.{_≡_, refl, ap, _∙_}
 use mathlib.Core.Logic.{_≢_}
 use Prim.Native.Nat.{ℕ}
 use contract.Lifetimes.{Lfts}
@@ -24,6 +25,8 @@ use Rattle.olr.specs.Read.{readVerdict}
 use Rattle.trace.proofs as Trace
 use Rattle.tree.proofs as Tree
 use Rattle.frame.proofs as Frame
+use Rattle.crossing.proofs as Crossing
+use Rattle.piece.proofs as Piece
 use Rattle.paint.proofs as Paint
 use Rattle.olr.proofs as Olr
 use Rattle.host.proofs as Host
@@ -37,6 +40,13 @@ module _ (T : Ended) (C : (κs : Lfts (T .signature .lifetimes)) → Args (T .si
   Keeps =
       (κs : Lfts (T .signature .lifetimes)) (a : Args (T .signature) κs) (z : Res (T .signature) κs) (ws : Lasts T κs a) → C κs a z (atExit T κs a ws)
       → number κs z ≢ 0 → same κs (atExit T κs a ws) ≡ a
+
+module _ (T : Ended) (C : (κs : Lfts (T .signature .lifetimes)) → Args (T .signature) κs → Res (T .signature) κs → AtExit T κs → Type 0)
+    (same : (κs : Lfts (T .signature .lifetimes)) → AtExit T κs → Args (T .signature) κs) where
+  abbrev pub OnlyReads : Type 0
+  OnlyReads =
+      (κs : Lfts (T .signature .lifetimes)) (a : Args (T .signature) κs) (z : Res (T .signature) κs) (ws : Lasts T κs a) → C κs a z (atExit T κs a ws)
+      → same κs (atExit T κs a ws) ≡ a
 
 -- an answer's number is that of the verdict that it is made from
 refused-by : (v : Verdict) (words lines : ℕ) (r : Answer) → r ≡ answer v words lines → r .number ≢ 0 → v .number ≢ 0
@@ -96,3 +106,28 @@ c-write-keeps = write-keeps
 
 pub c-read-keeps : Keeps Host.loafcanyon_read.ended Host.loafcanyon_read.Reads.Learnt (λ κs z. z .answer .number) (λ κs e. e)
 c-read-keeps = read-keeps
+
+-- ---- the calls that are lent nothing to write to
+pub crossing-reads : OnlyReads Crossing.crossing_at.ended Crossing.crossing_at.Reads.Learnt (λ κs e. e)
+crossing-reads κs a z ws p = refl
+
+pub piece-reads : OnlyReads Piece.piece_at.ended Piece.piece_at.Reads.Learnt (λ κs e. e)
+piece-reads κs a z ws p = refl
+
+pub part-reads : OnlyReads Paint.line_part.ended Paint.line_part.Reads.Learnt (λ κs e. e)
+part-reads κs a z ws p = refl
+
+pub member-reads : OnlyReads Paint.member.ended Paint.member.Reads.Learnt (λ κs e. e)
+member-reads κs a z ws p = refl
+
+pub c-crossing-reads : OnlyReads Host.loafcanyon_crossing.ended Host.loafcanyon_crossing.Reads.Learnt (λ κs e. e)
+c-crossing-reads κs a z ws p = refl
+
+pub c-piece-reads : OnlyReads Host.loafcanyon_piece.ended Host.loafcanyon_piece.Reads.Learnt (λ κs e. e)
+c-piece-reads κs a z ws p = refl
+
+pub c-part-reads : OnlyReads Host.loafcanyon_part.ended Host.loafcanyon_part.Reads.Learnt (λ κs e. e)
+c-part-reads κs a z ws p = refl
+
+pub c-member-reads : OnlyReads Host.loafcanyon_member.ended Host.loafcanyon_member.Reads.Learnt (λ κs e. e)
+c-member-reads κs a z ws p = refl

@@ -19,3 +19,4 @@ pub mod DemandTwoList
 pub mod DemandTwoPaint
 pub mod DemandTwoFile
 pub mod DemandTwoCalls
+pub mod ListThen

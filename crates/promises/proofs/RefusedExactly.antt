@@ -2,7 +2,8 @@
 -- Definitions: `numbers` the numbers of rows; `Exactly` what is said of a call: its numbers in the paper's order, which of them is answered, with what, and when the call is done; `single` each number stands once.
 -- Main laws: `exactly` it holds of every answer that is made from rows whose numbers differ; `list-exactly`, `tree-exactly`, `frame-exactly`, `crossing-exactly`, `piece-exactly`, `member-exactly`, `paint-exactly`,
 --   `write-exactly`, `read-exactly` it for each call with an answer, of the rows in the call's definition; `part-exactly` the line part, whose 11 is an empty part alone; `c-piece-exactly`, `c-part-exactly` the two calls for
---   C that tell their answers in another form, where the other eight have the base's; `crossing-nothing`, `piece-nothing`, `member-nothing`, `read-nothing` what the answer else holds where it is refused.
+--   C that tell their answers in another form, where the other eight have the base's; `crossing-nothing`, `piece-nothing`, `member-nothing`, `read-nothing` what the answer else holds where it is refused;
+--   `same-number`, `refuses` the number answered is the verdict's.
 use mathlib.Core.Path.{_≡_, refl, sym, ap, subst, _∙_}
 use mathlib.Core.Bool.{Bool, true, false, not, _&&_}
 use mathlib.Core.List.{List, [], _∷_}

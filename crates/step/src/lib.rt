@@ -3,7 +3,6 @@ use edgel::Heading;
 ghost use mathlib.Core.Path.{_≡_};
 ghost use mathlib.Core.Bool.{Bool, true, false};
 ghost use Prim.Native.Nat.{ℕ, _+_, _*_, _≤_, _<_};
-ghost use lib.IntN.{pos, _+ℤ_};
 ghost use lib.ListN.{length};
 ghost use Rattle.matte.specs.Picture.{picture};
 ghost use Rattle.edgel.specs.Heading.{left, dx, dy, ahead};
@@ -11,18 +10,18 @@ ghost use Rattle.edgel.specs.Edgel.{horizontal};
 ghost use Rattle.cell.specs.Turn.{saddle, leave};
 ghost use Rattle.step.specs.Step.{four, turned, rightEnd, leftEnd, codeOn, codeAt, leaving, after, Ready};
 
-// A move by one place; each part is one more than it is, so that none is negative.
+// A move by one place: east and south are positive.
 pub struct Move {
-    pub dx: usize,
-    pub dy: usize,
+    pub dx: i64,
+    pub dy: i64,
 }
 
 // The moves of the headings, in their order.
 const MOVES: [Move; 4] = [
-    Move { dx: 1, dy: 2 },
-    Move { dx: 2, dy: 1 },
-    Move { dx: 1, dy: 0 },
     Move { dx: 0, dy: 1 },
+    Move { dx: 1, dy: 0 },
+    Move { dx: 0, dy: -1 },
+    Move { dx: -1, dy: 0 },
 ];
 
 // A crossing on its way: the left or top end of its edgel, and its heading.
@@ -33,10 +32,9 @@ pub struct State {
 
 // The move of a heading.
 fn move_of(g: Heading) -> Move
-    ensures { λ r. ⌜ (pos (r .dx) ≡ dx g +ℤ pos 1) × (pos (r .dy) ≡ dy g +ℤ pos 1) ⌝ }
+    ensures { λ r. ⌜ (r .dx ≡ dx g) × (r .dy ≡ dy g) ⌝ }
 {
-    let i = g.number();
-    MOVES[i]
+    MOVES[g.number()]
 }
 
 // The place one move on from the place i; the move must not leave the picture at its top or its first place.
@@ -45,7 +43,7 @@ fn place_ahead(w: usize, g: Heading, i: usize) -> usize
     ensures { λ r. ⌜ r ≡ ahead w g i ⌝ }
 {
     let m = move_of(g);
-    i + m.dx + m.dy * w - (w + 1)
+    (i as i64 + m.dx + m.dy * (w as i64)) as usize
 }
 
 fn product(a: u32, b: u32) -> u32

@@ -1,5 +1,4 @@
 -- `step::place_ahead` meets its contract. Assumes nothing.
-use native.Mathlib.Omega.{arith}
 use borrow.Author.Needs.{needs}
 use Rattle.step.proofs.Moves.{moved}
 use Rattle.step.proofs.place_ahead.Statement.{statement}
@@ -8,25 +7,36 @@ use Rattle.step.proofs.place_ahead.Tie as tie
 move-of-requires : tie.Need-move-of-requires
 move-of-requires c κs = search needs
 
+cast-result : tie.Need-cast-result
+cast-result c = search needs
+
 add-result : tie.Need-add-result
-add-result c = omega (arith, (moved (c .before .before .args .w) (c .before .before .args .g) (c .before .before .args .i) (c .before .move-of .result .dx) (c .before .move-of .result .dy) (c .before .move-of .ensures .0) (c .before .move-of .ensures .1) (c .before .before .pre .2)) .across)
+add-result c = (moved (c .before .before .before .args .w) (c .before .before .before .args .g) (c .before .before .before .args .i) (c .before .before .move-of .result .dx) (c .before .before .move-of .result .dy) (c .before .before .move-of .ensures .0) (c .before .before .move-of .ensures .1) (c .before .before .before .pre .0) (c .before .before .before .pre .1) (c .before .before .before .pre .2)) .across
+
+cast-result-2 : tie.Need-cast-result-2
+cast-result-2 c = search needs
 
 mul-result : tie.Need-mul-result
-mul-result c = omega (arith, (moved (c .before .before .before .args .w) (c .before .before .before .args .g) (c .before .before .before .args .i) (c .before .before .move-of .result .dx) (c .before .before .move-of .result .dy) (c .before .before .move-of .ensures .0) (c .before .before .move-of .ensures .1) (c .before .before .before .pre .2)) .down)
+mul-result c = (moved (c .before .before .before .before .before .args .w) (c .before .before .before .before .before .args .g) (c .before .before .before .before .before .args .i) (c .before .before .before .before .move-of .result .dx) (c .before .before .before .before .move-of .result .dy) (c .before .before .before .before .move-of .ensures .0) (c .before .before .before .before .move-of .ensures .1) (c .before .before .before .before .before .pre .0) (c .before .before .before .before .before .pre .1) (c .before .before .before .before .before .pre .2)) .down
 
 add-result-2 : tie.Need-add-result-2
-add-result-2 c = let m = (moved (c .before .before .before .args .w) (c .before .before .before .args .g) (c .before .before .before .args .i) (c .before .before .move-of .result .dx) (c .before .before .move-of .result .dy) (c .before .before .move-of .ensures .0) (c .before .before .move-of .ensures .1) (c .before .before .before .pre .2)) in omega (arith, m .across, m .down)
+add-result-2 c = (moved (c .before .before .before .before .before .args .w) (c .before .before .before .before .before .args .g) (c .before .before .before .before .before .args .i) (c .before .before .before .before .move-of .result .dx) (c .before .before .before .before .move-of .result .dy) (c .before .before .before .before .move-of .ensures .0) (c .before .before .before .before .move-of .ensures .1) (c .before .before .before .before .before .pre .0) (c .before .before .before .before .before .pre .1) (c .before .before .before .before .before .pre .2)) .sum
 
-add-result-3 : tie.Need-add-result-3
-add-result-3 c = search needs
-
-sub-result : tie.Need-sub-result
-sub-result c = (moved (c .before .before .before .args .w) (c .before .before .before .args .g) (c .before .before .before .args .i) (c .before .before .move-of .result .dx) (c .before .before .move-of .result .dy) (c .before .before .move-of .ensures .0) (c .before .before .move-of .ensures .1) (c .before .before .before .pre .2)) .room
+cast-result-3 : tie.Need-cast-result-3
+cast-result-3 c = (moved (c .before .before .before .before .before .args .w) (c .before .before .before .before .before .args .g) (c .before .before .before .before .before .args .i) (c .before .before .before .before .move-of .result .dx) (c .before .before .before .before .move-of .result .dy) (c .before .before .before .before .move-of .ensures .0) (c .before .before .before .before .move-of .ensures .1) (c .before .before .before .before .before .pre .0) (c .before .before .before .before .before .pre .1) (c .before .before .before .before .before .pre .2)) .kept
 
 returns : tie.Need-returns
-returns c = (moved (c .before .before .before .args .w) (c .before .before .before .args .g) (c .before .before .before .args .i) (c .before .before .move-of .result .dx) (c .before .before .move-of .result .dy) (c .before .before .move-of .ensures .0) (c .before .before .move-of .ensures .1) (c .before .before .before .pre .2)) .place
+returns c = (moved (c .before .before .before .before .before .args .w) (c .before .before .before .before .before .args .g) (c .before .before .before .before .before .args .i) (c .before .before .before .before .move-of .result .dx) (c .before .before .before .before .move-of .result .dy) (c .before .before .before .before .move-of .ensures .0) (c .before .before .before .before .move-of .ensures .1) (c .before .before .before .before .before .pre .0) (c .before .before .before .before .before .pre .1) (c .before .before .before .before .before .pre .2)) .place
 
 pub place-ahead-spec : {M : Type 1} → statement M
 place-ahead-spec =
     tie.close
-    (tie.spec move-of-requires add-result mul-result add-result-2 add-result-3 sub-result returns)
+    (tie.spec
+    move-of-requires
+    cast-result
+    add-result
+    cast-result-2
+    mul-result
+    add-result-2
+    cast-result-3
+    returns)

@@ -127,7 +127,7 @@ pub fn at_lead(s: State, e: usize) -> bool
     false
 }
 
-// The crossing of the horizontal edgel from the place e, by whether that place is high.
+// The crossing of the horizontal edgel from the place e, by whether that place is high: it heads S, the start of the order, or N.
 pub fn lead_state(e: usize, high: bool) -> State
     ensures { λ r. ⌜ ((H : ℕ → Bool) → H e ≡ high → r ≡ stateAt H (2 * e)) ⌝ }
 {
@@ -139,7 +139,7 @@ pub fn lead_state(e: usize, high: bool) -> State
     }
     State {
         place: e,
-        heading: Heading::South,
+        heading: Heading::start(),
     }
 }
 

@@ -1,11 +1,10 @@
 -- The piece as plain numbers, for hosts that have no enums with data. Assumes nothing.
--- Definitions: `first`, `second`, `third` a case's floats, +0 where it holds fewer; `toldPiece` the answer of the piece call, its case by number.
+-- Definitions: `first`, `second`, `third` a case's floats, +0 where it holds fewer; `toldPiece` what is told of the piece call's answer, as one record of numbers.
 use mathlib.Core.List.{List, [], _∷_}
 use Prim.Native.Nat.{ℕ}
 use lib.IntN.{pos}
 use lib.Ieee.{Float, binary64, ofInt}
-use Rattle.piece.specs.declared.Found.{Found}
-use Rattle.piece.specs.Piece.{caseNumber, caseValues}
+use Rattle.piece.specs.Piece.{Told}
 use Rattle.host.specs.declared.ToldPiece.{ToldPiece}
 
 abbrev pub nought : Float
@@ -24,12 +23,12 @@ third [] = nought
 third (x ∷ l) = second l
 
 -- the case by its number, 0 for refused, and its values (01, The piece in one cell)
-abbrev pub toldPiece : Found → ToldPiece
-toldPiece f =
+abbrev pub toldPiece : Told → ToldPiece
+toldPiece t =
     record {
-      answer = f .answer;
-      kind = caseNumber (f .piece);
-      xs = first (caseValues (f .piece));
-      ys = second (caseValues (f .piece));
-      delta = third (caseValues (f .piece));
+      answer = t .answer;
+      kind = t .piece .number;
+      xs = first (t .piece .values);
+      ys = second (t .piece .values);
+      delta = third (t .piece .values);
     }

@@ -22,7 +22,7 @@ ghost use Rattle.matte.specs.Picture.{picture};
 ghost use Rattle.outline.specs.List.{listAnswer, listWork, listWords};
 ghost use Rattle.enclosure.specs.Call.{treeAnswer, treeWork, treeWords, treeEntries};
 ghost use Rattle.crossing.specs.Crossing.{crossingAnswer};
-ghost use Rattle.piece.specs.Piece.{pieceAnswer};
+ghost use Rattle.piece.specs.Piece.{told, pieceAnswer};
 ghost use Rattle.frame.specs.Frame.{frameAnswer, frameRoom};
 ghost use Rattle.paint.specs.Member.{memberAnswer};
 ghost use Rattle.paint.specs.Paint.{paintAnswer, paintRoom};
@@ -49,7 +49,7 @@ pub struct LinePlace {
 }
 
 fn told(f: Found) -> ToldPiece
-    ensures { λ r. ⌜ r ≡ toldPiece f ⌝ }
+    ensures { λ r. ⌜ r ≡ toldPiece (told f) ⌝ }
 {
     let a = f.answer;
     let p = f.piece;

@@ -11,9 +11,8 @@ use lib.IntN.{ℤ, pos, negsuc, negℤ, _+ℤ_, _-ℤ_, _*ℤ_, negℤ-negℤ}
 use lib.Ieee.{Float}
 use borrow.Author.Tests.{ltb-true, ltb-false, eq-eqb, ne-eqb}
 use Rattle.tally.proofs.Test.{by-test}
-use Rattle.piece.specs.declared.Piece.{Piece}
 use Rattle.piece.specs.declared.Piece.the-variants.{Straight, Corner, Branch}
-use Rattle.piece.specs.Piece.{isZero, ratio, upTo, within, b, c, d, s, excess, pieceOf}
+use Rattle.piece.specs.Piece.{isZero, ratio, upTo, within, b, c, d, s, excess, Case, caseOf, pieceOf}
 use Rattle.piece.specs.Curve.{over, curvedOf, term}
 use Rattle.piece.proofs.Minus.{minus-lt, minus-ge, minus-zero, neg-minus, plus-minus, times-minus}
 
@@ -33,12 +32,12 @@ pub up-ge : (a b m : ℕ) → b ≤ a → leb (a - b) m ≡ upTo (pos a -ℤ pos
 up-ge a b m l = sym (ap (λ (z : ℤ). upTo z m) (minus-ge a b l))
 
 -- ---- the definition, by the sign of d
-unfoldable pieceFrom : ℤ → ℤ → ℤ → ℤ → Piece
+unfoldable pieceFrom : ℤ → ℤ → ℤ → ℤ → Case
 pieceFrom bz cz dz ez =
-    cond (isZero dz) Straight
+    cond (isZero dz) (caseOf Straight)
     (cond (isZero ez)
-    (cond (within (negℤ cz) dz && within (negℤ bz) dz) (Corner (record { xs = ratio (negℤ cz) dz; ys = ratio (negℤ bz) dz })) Straight)
-    (Branch (record { xs = ratio (negℤ cz) dz; ys = ratio (negℤ bz) dz }) (ratio ez (pos 2 *ℤ (dz *ℤ dz)))))
+    (cond (within (negℤ cz) dz && within (negℤ bz) dz) (caseOf (Corner (record { xs = ratio (negℤ cz) dz; ys = ratio (negℤ bz) dz }))) (caseOf Straight))
+    (caseOf (Branch (record { xs = ratio (negℤ cz) dz; ys = ratio (negℤ bz) dz }) (ratio ez (pos 2 *ℤ (dz *ℤ dz))))))
 
 piece-from : (p0 p1 p2 p3 k : ℕ) → pieceOf p0 p1 p2 p3 k ≡ pieceFrom (b p0 p1 p2 p3) (c p0 p1 p2 p3) (d p0 p1 p2 p3) (excess p0 p1 p2 p3 k)
 unfolding pieceOf pieceFrom
@@ -62,7 +61,7 @@ module _ (p0 p1 p2 p3 k : ℕ) where
       ∙ ap (λ (z : ℤ). pieceFrom (b p0 p1 p2 p3) (c p0 p1 p2 p3) z (excess p0 p1 p2 p3 k)) e
       ∙ ap (pieceFrom (b p0 p1 p2 p3) (c p0 p1 p2 p3) dz) (excess-is p0 p1 p2 p3 k)
 
-  pub piece-flat : p0 + p2 ≡ p1 + p3 → Straight ≡ pieceOf p0 p1 p2 p3 k
+  pub piece-flat : p0 + p2 ≡ p1 + p3 → caseOf Straight ≡ pieceOf p0 p1 p2 p3 k
   unfolding pieceFrom
   piece-flat e = sym (told (pos 0) (minus-zero (p0 + p2) (p1 + p3) e))
 
@@ -99,7 +98,7 @@ minus-not l r z =
 
 module _ (x y : ℤ) (l r m : ℕ) (f g : Float) (p : f ≡ over x m) (q : g ≡ over y m) where
   pub curved-branch : (l ≡ r → ⊥) → (e : Float) → e ≡ over (pos l -ℤ pos r) (2 * (m * m))
-      → Branch (record { xs = f; ys = g }) e ≡ curvedOf x y (pos l -ℤ pos r) m
+      → caseOf (Branch (record { xs = f; ys = g }) e) ≡ curvedOf x y (pos l -ℤ pos r) m
   unfolding curvedOf
   curved-branch z e s = rw (p, q, s, minus-not l r z)
 
@@ -107,14 +106,14 @@ module _ (x y : ℤ) (l r m : ℕ) (f g : Float) (p : f ≡ over x m) (q : g ≡
     met-zero : isZero (pos l -ℤ pos r) ≡ true
     met-zero = ap isZero (minus-zero l r z) ∙ eq-eqb 0 0 refl
 
-    pub curved-out-x : upTo x m ≡ false → Straight ≡ curvedOf x y (pos l -ℤ pos r) m
+    pub curved-out-x : upTo x m ≡ false → caseOf Straight ≡ curvedOf x y (pos l -ℤ pos r) m
     unfolding curvedOf
     curved-out-x u = rw (met-zero, u)
 
-    pub curved-out-y : upTo x m ≡ true → upTo y m ≡ false → Straight ≡ curvedOf x y (pos l -ℤ pos r) m
+    pub curved-out-y : upTo x m ≡ true → upTo y m ≡ false → caseOf Straight ≡ curvedOf x y (pos l -ℤ pos r) m
     unfolding curvedOf
     curved-out-y u v = rw (met-zero, u, v)
 
-    pub curved-corner : upTo x m ≡ true → upTo y m ≡ true → Corner (record { xs = f; ys = g }) ≡ curvedOf x y (pos l -ℤ pos r) m
+    pub curved-corner : upTo x m ≡ true → upTo y m ≡ true → caseOf (Corner (record { xs = f; ys = g })) ≡ curvedOf x y (pos l -ℤ pos r) m
     unfolding curvedOf
     curved-corner u v = rw (p, q, met-zero, u, v)

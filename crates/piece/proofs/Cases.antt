@@ -16,9 +16,8 @@ use Rattle.matte.specs.Layout.{eight}
 use Rattle.matte.specs.Picture.{Picture, at}
 use Rattle.matte.specs.Refusal.{answer}
 use Rattle.matte.proofs.Rows.{done-answer, refused-answer, done-after, refused-after}
-use Rattle.piece.specs.declared.Piece.{Piece}
 use Rattle.piece.specs.declared.Piece.the-variants.{Refused, Straight, Corner, Branch}
-use Rattle.piece.specs.Piece.{isZero, d, s, inside, centre, excess, delta, pieceOf, caseNumber, pieceVerdict, pieceAnswer, cellAt}
+use Rattle.piece.specs.Piece.{isZero, d, s, inside, centre, excess, delta, Case, caseOf, pieceOf, pieceVerdict, pieceAnswer, cellAt}
 
 -- ---- whole numbers
 zero-is : (z : ℤ) → isZero z ≡ true → z ≡ pos 0
@@ -46,23 +45,23 @@ module _ (p0 p1 p2 p3 k : ℕ) where
   zero-excess e = equal (pos (2 * k + 1) *ℤ d p0 p1 p2 p3) (pos 2 *ℤ s p0 p1 p2 p3) e
 
   -- straight, if d = 0
-  pub straight-flat : d p0 p1 p2 p3 ≡ pos 0 → pieceOf p0 p1 p2 p3 k ≡ Straight
+  pub straight-flat : d p0 p1 p2 p3 ≡ pos 0 → pieceOf p0 p1 p2 p3 k ≡ caseOf Straight
   unfolding pieceOf
   straight-flat e = rw (is-zero (d p0 p1 p2 p3) e)
 
   module _ (f : d p0 p1 p2 p3 ≡ pos 0 → ⊥) where
     -- or if the saddle is met and the centre is outside
-    pub straight-outside : Meets → inside p0 p1 p2 p3 ≡ false → pieceOf p0 p1 p2 p3 k ≡ Straight
+    pub straight-outside : Meets → inside p0 p1 p2 p3 ≡ false → pieceOf p0 p1 p2 p3 k ≡ caseOf Straight
     unfolding pieceOf
     straight-outside m i = rw (not-zero (d p0 p1 p2 p3) f, is-zero (excess p0 p1 p2 p3 k) (excess-zero m), i)
 
     -- a corner, if it is met and the centre is inside
-    pub corner-met : Meets → inside p0 p1 p2 p3 ≡ true → pieceOf p0 p1 p2 p3 k ≡ Corner (centre p0 p1 p2 p3)
+    pub corner-met : Meets → inside p0 p1 p2 p3 ≡ true → pieceOf p0 p1 p2 p3 k ≡ caseOf (Corner (centre p0 p1 p2 p3))
     unfolding pieceOf
     corner-met m i = rw (not-zero (d p0 p1 p2 p3) f, is-zero (excess p0 p1 p2 p3 k) (excess-zero m), i)
 
     -- else a branch
-    pub branch-else : (Meets → ⊥) → pieceOf p0 p1 p2 p3 k ≡ Branch (centre p0 p1 p2 p3) (delta p0 p1 p2 p3 k)
+    pub branch-else : (Meets → ⊥) → pieceOf p0 p1 p2 p3 k ≡ caseOf (Branch (centre p0 p1 p2 p3) (delta p0 p1 p2 p3 k))
     unfolding pieceOf
     branch-else m = rw (not-zero (d p0 p1 p2 p3) f, not-zero (excess p0 p1 p2 p3 k) (λ e. m (zero-excess e)))
 
@@ -79,26 +78,26 @@ module _ (p0 p1 p2 p3 k : ℕ) where
       by-test (inside p0 p1 p2 p3) (λ i. c f m i) (λ i. b f m i))
       (λ u. e f (λ m. no (is-zero (excess p0 p1 p2 p3 k) (excess-zero m)) u)))
 
-  pub never-refused : caseNumber (pieceOf p0 p1 p2 p3 k) ≡ 0 → ⊥
+  pub never-refused : pieceOf p0 p1 p2 p3 k .number ≡ 0 → ⊥
   never-refused z =
       met-cases
-      (λ a. omega (arith, sym (ap caseNumber (straight-flat a)) ∙ z))
-      (λ a m i. omega (arith, sym (ap caseNumber (straight-outside a m i)) ∙ z))
-      (λ a m i. omega (arith, sym (ap caseNumber (corner-met a m i)) ∙ z))
-      (λ a m. omega (arith, sym (ap caseNumber (branch-else a m)) ∙ z))
+      (λ a. omega (arith, sym (ap (λ (v : Case). v .number) (straight-flat a)) ∙ z))
+      (λ a m i. omega (arith, sym (ap (λ (v : Case). v .number) (straight-outside a m i)) ∙ z))
+      (λ a m i. omega (arith, sym (ap (λ (v : Case). v .number) (corner-met a m i)) ∙ z))
+      (λ a m. omega (arith, sym (ap (λ (v : Case). v .number) (branch-else a m)) ∙ z))
 
   pub record CornerTold : Type 0 where
     pub bent : d p0 p1 p2 p3 ≡ pos 0 → ⊥
     pub meets : Meets
     pub within : inside p0 p1 p2 p3 ≡ true
 
-  pub corner-told : caseNumber (pieceOf p0 p1 p2 p3 k) ≡ 2 → CornerTold
+  pub corner-told : pieceOf p0 p1 p2 p3 k .number ≡ 2 → CornerTold
   corner-told z =
       met-cases
-      (λ a. absurd (omega (arith, sym (ap caseNumber (straight-flat a)) ∙ z)))
-      (λ a m i. absurd (omega (arith, sym (ap caseNumber (straight-outside a m i)) ∙ z)))
+      (λ a. absurd (omega (arith, sym (ap (λ (v : Case). v .number) (straight-flat a)) ∙ z)))
+      (λ a m i. absurd (omega (arith, sym (ap (λ (v : Case). v .number) (straight-outside a m i)) ∙ z)))
       (λ a m i. record { bent = a; meets = m; within = i })
-      (λ a m. absurd (omega (arith, sym (ap caseNumber (branch-else a m)) ∙ z)))
+      (λ a m. absurd (omega (arith, sym (ap (λ (v : Case). v .number) (branch-else a m)) ∙ z)))
 
 -- ---- the call
 number-is : (v : Verdict) → answer v 0 0 .number ≡ v .number
@@ -111,19 +110,19 @@ number-is v = by-test (eqb (v .number) 0) (λ t. done-number v (eqb-true _ _ t))
     refused-number v z = ap (λ (a : Answer). a .number) (refused-answer v 0 0 z)
 
 module _ (P : Picture) (k x y : ℕ) where
-  abbrev found : Piece
+  abbrev found : Case
   found =
       let t = cellAt P k x y in
       pieceOf (at P t) (at P (t + P .w)) (at P (t + P .w + 1)) (at P (t + 1)) k
 
   -- the answer's number is not 0: the refused case (01, Numbers for a refused call)
-  pub refused-if : (pieceAnswer P k x y eight .answer .number ≡ 0 → ⊥) → pieceAnswer P k x y eight .piece ≡ Refused
-  refused-if z = refused-after (pieceVerdict P k x y eight) Refused found (λ e. z (number-is (pieceVerdict P k x y eight) ∙ e))
+  pub refused-if : (pieceAnswer P k x y eight .answer .number ≡ 0 → ⊥) → pieceAnswer P k x y eight .piece ≡ caseOf Refused
+  refused-if z = refused-after (pieceVerdict P k x y eight) (caseOf Refused) found (λ e. z (number-is (pieceVerdict P k x y eight) ∙ e))
 
   -- and only then
-  pub refused-only : pieceAnswer P k x y eight .piece ≡ Refused → pieceAnswer P k x y eight .answer .number ≡ 0 → ⊥
+  pub refused-only : pieceAnswer P k x y eight .piece ≡ caseOf Refused → pieceAnswer P k x y eight .answer .number ≡ 0 → ⊥
   refused-only e z =
       let t = cellAt P k x y in
       let n : pieceVerdict P k x y eight .number ≡ 0 = sym (number-is (pieceVerdict P k x y eight)) ∙ z in
       never-refused (at P t) (at P (t + P .w)) (at P (t + P .w + 1)) (at P (t + 1)) k
-      (ap caseNumber (sym (done-after (pieceVerdict P k x y eight) Refused found n) ∙ e))
+      (ap (λ (v : Case). v .number) (sym (done-after (pieceVerdict P k x y eight) (caseOf Refused) found n) ∙ e))

@@ -9,7 +9,7 @@ use lib.Dec.{ltb}
 use lib.IntN.{ℤ, pos, negℤ, _-ℤ_, negℤ-negℤ}
 use borrow.Author.Tests.{lt-ltb, ltb-true, ltb-false, leb-true}
 use Rattle.tally.proofs.Test.{by-test, no, and-1, and-2, both}
-use Rattle.piece.specs.Piece.{upTo, within, b, c, d, pieceOf, caseNumber}
+use Rattle.piece.specs.Piece.{upTo, within, b, c, d, pieceOf}
 use Rattle.piece.specs.Curve.{term, strictUpTo, strictWithin}
 use Rattle.piece.proofs.Minus.{minus-lt, minus-ge, minus-zero, minus-equal, neg-minus}
 use Rattle.piece.proofs.Bend.{excess-is, up-lt, up-ge}
@@ -90,7 +90,7 @@ strict-part p q i j z u x y =
     ∙ strict-up p q (i - j) (sym (ap (within (negℤ (pos q -ℤ pos p))) e ∙ ap (λ (v : ℤ). upTo v (i - j)) n) ∙ u) x (λ r. y (omega arith)))
 
 -- the centre is strictly inside (01, The piece in one cell)
-pub corner-inside : (p0 p1 p2 p3 k : ℕ) → caseNumber (pieceOf p0 p1 p2 p3 k) ≡ 2
+pub corner-inside : (p0 p1 p2 p3 k : ℕ) → pieceOf p0 p1 p2 p3 k .number ≡ 2
     → (strictWithin (negℤ (c p0 p1 p2 p3)) (d p0 p1 p2 p3) ≡ true) × (strictWithin (negℤ (b p0 p1 p2 p3)) (d p0 p1 p2 p3) ≡ true)
 corner-inside p0 p1 p2 p3 k z =
     let T = corner-told p0 p1 p2 p3 k z in

@@ -8,3 +8,4 @@ pub mod Inside
 pub mod Ring
 pub mod Surface
 pub mod Saddle
+pub mod Back

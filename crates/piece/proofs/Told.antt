@@ -22,10 +22,9 @@ use Rattle.edgel.specs.Edgel.{crossed}
 use Rattle.refuse.specs.Shape.{Sides}
 use Rattle.refuse.proofs.Sides.{sides-in}
 use Rattle.piece.specs.declared.Corners.{Corners}
-use Rattle.piece.specs.declared.Found.{Found}
 use Rattle.piece.specs.declared.Piece.{Piece}
 use Rattle.piece.specs.declared.Piece.the-variants.{Refused}
-use Rattle.piece.specs.Piece.{pieceOf, cellAt, isCell, met, pieceVerdict, pieceAnswer}
+use Rattle.piece.specs.Piece.{Case, caseOf, Told, told, pieceOf, cellAt, isCell, met, pieceVerdict, pieceAnswer}
 use Rattle.piece.specs.Curve.{mixed, cornersAt}
 
 abbrev pub refusal : ℕ → Verdict
@@ -138,22 +137,22 @@ module _ (P : Picture) (k x y : ℕ) where
       }
 
   -- ---- the answer
-  abbrev found : ℕ → Piece
+  abbrev found : ℕ → Case
   found t = pieceOf (at P t) (at P (t + P .w)) (at P (t + P .w + 1)) (at P (t + 1)) k
 
-  abbrev made : Bool → Verdict → Found
+  abbrev made : Bool → Verdict → Told
   made b v =
       record {
         answer = cond b (record { number = 0; place = 0; words = 0; lines = 0 }) (record { number = v .number; place = v .place; words = 0; lines = 0 });
-        piece = cond b (found (cellAt P k x y)) Refused;
+        piece = cond b (found (cellAt P k x y)) (caseOf Refused);
       }
 
   pub refused-is : (v : Verdict) → v ≡ pieceVerdict P k x y eight → (v .number ≡ 0 → ⊥)
-      → _≡_ {A = Found} (record { answer = record { number = v .number; place = v .place; words = 0; lines = 0 }; piece = Refused }) (pieceAnswer P k x y eight)
+      → told (record { answer = record { number = v .number; place = v .place; words = 0; lines = 0 }; piece = Refused }) ≡ pieceAnswer P k x y eight
   refused-is v e z = ap (λ (b : Bool). made b v) (sym (ne-eqb (v .number) 0 z)) ∙ ap (λ (u : Verdict). made (eqb (u .number) 0) u) e
 
-  pub done-is : (v : Verdict) → v ≡ pieceVerdict P k x y eight → v .number ≡ 0 → (q : Corners) (t : ℕ) → q ≡ cornersAt (P .w) (P .px) t → t ≡ cellAt P k x y → (p : Piece) → p ≡ pieceOf (q .p0) (q .p1) (q .p2) (q .p3) k
-      → _≡_ {A = Found} (record { answer = record { number = 0; place = 0; words = 0; lines = 0 }; piece = p }) (pieceAnswer P k x y eight)
+  pub done-is : (v : Verdict) → v ≡ pieceVerdict P k x y eight → v .number ≡ 0 → (q : Corners) (t : ℕ) → q ≡ cornersAt (P .w) (P .px) t → t ≡ cellAt P k x y → (p : Piece) → caseOf p ≡ pieceOf (q .p0) (q .p1) (q .p2) (q .p3) k
+      → told (record { answer = record { number = 0; place = 0; words = 0; lines = 0 }; piece = p }) ≡ pieceAnswer P k x y eight
   done-is v e z q t c s p r =
-      let f : p ≡ found (cellAt P k x y) = r ∙ ap (λ (u : Corners). pieceOf (u .p0) (u .p1) (u .p2) (u .p3) k) c ∙ ap found s in
+      let f : caseOf p ≡ found (cellAt P k x y) = r ∙ ap (λ (u : Corners). pieceOf (u .p0) (u .p1) (u .p2) (u .p3) k) c ∙ ap found s in
       rw f (ap (λ (b : Bool). made b v) (sym (eq-eqb (v .number) 0 z)) ∙ ap (λ (u : Verdict). made (eqb (u .number) 0) u) e)

@@ -11,19 +11,18 @@ use lib.ListN.{getD}
 use lib.Ieee.{Float, binary64, div, ofInt}
 use Rattle.tally.specs.Tally.{differ}
 use Rattle.piece.specs.declared.Corners.{Corners}
-use Rattle.piece.specs.declared.Piece.{Piece}
 use Rattle.piece.specs.declared.Piece.the-variants.{Straight, Corner, Branch}
-use Rattle.piece.specs.Piece.{isZero, upTo}
+use Rattle.piece.specs.Piece.{isZero, upTo, Case, caseOf}
 
 -- one division of exact whole numbers
 unfoldable pub over : ℤ → ℕ → Float
 over z m = div binary64 (ofInt binary64 z) (ofInt binary64 (pos m))
 
 -- x and y over m are the centre, e the excess, m the size of d (01, The piece in one cell)
-unfoldable pub curvedOf : ℤ → ℤ → ℤ → ℕ → Piece
+unfoldable pub curvedOf : ℤ → ℤ → ℤ → ℕ → Case
 curvedOf x y e m =
-    cond (isZero e) (cond (upTo x m && upTo y m) (Corner (record { xs = over x m; ys = over y m })) Straight)
-    (Branch (record { xs = over x m; ys = over y m }) (over e (2 * (m * m))))
+    cond (isZero e) (cond (upTo x m && upTo y m) (caseOf (Corner (record { xs = over x m; ys = over y m }))) (caseOf Straight))
+    (caseOf (Branch (record { xs = over x m; ys = over y m }) (over e (2 * (m * m)))))
 
 -- (2k+1)·d > 2s has this on either side, with each product where it is positive (01, Following a line)
 abbrev pub term : ℕ → ℕ → ℕ → ℕ → ℕ → ℕ

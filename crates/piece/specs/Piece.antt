@@ -1,12 +1,14 @@
 -- The piece of a level line in one cell, and the call. Assumes nothing.
 -- Definitions: `isZero` a whole number is 0; `ratio` a quotient as a float, `within` it lies from 0 to 1; `b`, `c`, `d`, `s` of the cell's corners by place; `met` an edgel of the
---   cell is crossed; `centre`, `delta`; `pieceOf` which piece it is; `caseNumber`, `caseValues` the paper's number and values of each case; `pieceRows`, `pieceVerdict`, `pieceAnswer` the call.
+--   cell is crossed; `centre`, `delta`; `Case` a case's number and values, `caseOf` those of each case of the enum; `pieceOf` which piece it is; `Told` an answer with its piece's number and values,
+--   `told` that of the code's answer; `pieceRows`, `pieceVerdict`, `pieceAnswer` the call.
 use mathlib.Core.Bool.{Bool, true, false, not, _&&_, _||_, cond}
 use mathlib.Core.List.{List, [], _∷_}
 use Prim.Native.Nat.{ℕ, suc, _+_, _*_}
 use lib.Dec.{eqb, ltb, leb}
 use lib.IntN.{ℤ, pos, negsuc, negℤ, _+ℤ_, _-ℤ_, _*ℤ_}
 use lib.Ieee.{Float, binary64, div, ofInt}
+use Rattle.matte.specs.declared.Answer.{Answer}
 use Rattle.matte.specs.declared.Verdict.{Verdict}
 use Rattle.matte.specs.Layout.{Layout}
 use Rattle.matte.specs.Picture.{Picture, at, high}
@@ -36,6 +38,18 @@ upTo (negsuc n) m = false
 abbrev pub within : ℤ → ℤ → Bool
 within n (pos m) = upTo n m
 within n (negsuc m) = upTo (negℤ n) (suc m)
+
+-- a case of the piece: its number, and the floats that it holds (01, Forms by place in the code)
+pub record Case : Type 0 where
+  pub number : ℕ
+  pub values : List Float
+
+-- 0 refused, 1 straight, 2 corner with the centre, 3 branch with the centre and δ (01, The piece in one cell)
+abbrev pub caseOf : Piece → Case
+caseOf Refused = record { number = 0; values = [] }
+caseOf Straight = record { number = 1; values = [] }
+caseOf (Corner z) = record { number = 2; values = z .xs ∷ z .ys ∷ [] }
+caseOf (Branch z e) = record { number = 3; values = z .xs ∷ z .ys ∷ e ∷ [] }
 
 -- the corners by place: p0 top left, p1 bottom left, p2 bottom right, p3 top right (01, The piece in one cell)
 module _ (p0 p1 p2 p3 : ℕ) where
@@ -69,24 +83,19 @@ module _ (p0 p1 p2 p3 : ℕ) where
     delta = ratio excess (pos 2 *ℤ (d *ℤ d))
 
     -- straight if d = 0, or where the saddle is met and the centre is outside; corner where it is met and the centre is inside; else a branch (01, The piece in one cell)
-    unfoldable pub pieceOf : Piece
+    unfoldable pub pieceOf : Case
     pieceOf =
-        cond (isZero d) Straight
-        (cond (isZero excess) (cond inside (Corner centre) Straight)
-        (Branch centre delta))
+        cond (isZero d) (caseOf Straight)
+        (cond (isZero excess) (cond inside (caseOf (Corner centre)) (caseOf Straight))
+        (caseOf (Branch centre delta)))
 
--- the cases by number, and the floats that each holds (01, The piece in one cell)
-abbrev pub caseNumber : Piece → ℕ
-caseNumber Refused = 0
-caseNumber Straight = 1
-caseNumber (Corner z) = 2
-caseNumber (Branch z e) = 3
+-- an answer with its piece's number and values
+pub record Told : Type 0 where
+  pub answer : Answer
+  pub piece : Case
 
-abbrev pub caseValues : Piece → List Float
-caseValues Refused = []
-caseValues Straight = []
-caseValues (Corner z) = z .xs ∷ z .ys ∷ []
-caseValues (Branch z e) = z .xs ∷ z .ys ∷ e ∷ []
+abbrev pub told : Found → Told
+told f = record { answer = f .answer; piece = caseOf (f .piece) }
 
 module _ (P : Picture) (k x y : ℕ) where
   -- the place of the cell's top left sample (01, The piece in one cell)
@@ -112,10 +121,11 @@ module _ (P : Picture) (k x y : ℕ) where
     abbrev pub pieceVerdict : Verdict
     pieceVerdict = verdict pieceRows
 
-    abbrev pub pieceAnswer : Found
+    -- refused, the case that says so (01, Numbers for a refused call)
+    abbrev pub pieceAnswer : Told
     pieceAnswer =
         record {
           answer = answer pieceVerdict 0 0;
-          piece = afterwards pieceVerdict Refused
+          piece = afterwards pieceVerdict (caseOf Refused)
               (pieceOf (at P cellAt) (at P (cellAt + P .w)) (at P (cellAt + P .w + 1)) (at P (cellAt + 1)) k);
         }

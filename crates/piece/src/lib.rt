@@ -14,7 +14,7 @@ ghost use Rattle.tally.specs.Tally.{differ};
 ghost use Rattle.matte.specs.Layout.{eight};
 ghost use Rattle.matte.specs.Picture.{picture};
 ghost use Rattle.refuse.specs.Shape.{Sides};
-ghost use Rattle.piece.specs.Piece.{upTo, pieceOf, pieceVerdict, pieceAnswer};
+ghost use Rattle.piece.specs.Piece.{upTo, caseOf, pieceOf, told, pieceVerdict, pieceAnswer};
 ghost use Rattle.piece.specs.Curve.{over, curvedOf, term, mixed, cornersAt};
 
 // The centre of the hyperbolas of a cell, relative to its top left sample.
@@ -81,7 +81,7 @@ fn part_within(x: u32, u: u32, m: u32) -> bool
 // The piece of a cell whose d has the size m, with the centre (x − u)/m and (y − v)/m and the excess l − r.
 fn curved(x: u8, u: u8, y: u8, v: u8, l: u32, r: u32, m: u32) -> Piece
     requires { ⌜ m ≤ 510 ⌝ }
-    ensures { λ o. ⌜ o ≡ curvedOf (pos x -ℤ pos u) (pos y -ℤ pos v) (pos l -ℤ pos r) m ⌝ }
+    ensures { λ o. ⌜ caseOf o ≡ curvedOf (pos x -ℤ pos u) (pos y -ℤ pos v) (pos l -ℤ pos r) m ⌝ }
 {
     let c = Centre {
         xs: quotient(x as u32, u as u32, m),
@@ -101,7 +101,7 @@ fn curved(x: u8, u: u8, y: u8, v: u8, l: u32, r: u32, m: u32) -> Piece
 
 // The piece of level k in the cell with these corners by place.
 fn piece_of(k: u8, p0: u8, p1: u8, p2: u8, p3: u8) -> Piece
-    ensures { λ r. ⌜ r ≡ pieceOf p0 p1 p2 p3 k ⌝ }
+    ensures { λ r. ⌜ caseOf r ≡ pieceOf p0 p1 p2 p3 k ⌝ }
 {
     let plus = (p0 as u32) + (p2 as u32);
     let minus = (p1 as u32) + (p3 as u32);
@@ -218,7 +218,7 @@ fn piece_verdict(w: usize, h: usize, px: &[u8], k: u8, x: usize, y: usize) -> Ve
 
 // The piece of level k in the cell whose top left sample is (x, y).
 pub fn piece_at(w: usize, h: usize, px: &[u8], k: u8, x: usize, y: usize) -> Found
-    ensures { λ r. ⌜ r ≡ pieceAnswer (picture w h (now (px .entry))) k x y eight ⌝ }
+    ensures { λ r. ⌜ told r ≡ pieceAnswer (picture w h (now (px .entry))) k x y eight ⌝ }
 {
     let v = piece_verdict(w, h, px, k, x, y);
     let number = v.number;

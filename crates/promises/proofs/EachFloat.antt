@@ -28,7 +28,7 @@ use Rattle.piece.specs.declared.Centre.{Centre}
 use Rattle.piece.specs.declared.Found.{Found}
 use Rattle.piece.specs.declared.Piece.{Piece}
 use Rattle.piece.specs.declared.Piece.the-variants.{Refused, Straight, Corner, Branch}
-use Rattle.piece.specs.Piece.{isZero, ratio, b, c, d, s, inside, centre, excess, delta, pieceOf, caseValues, cellAt, pieceVerdict, pieceAnswer}
+use Rattle.piece.specs.Piece.{isZero, ratio, b, c, d, s, inside, centre, excess, delta, Case, caseOf, Told, pieceOf, cellAt, pieceVerdict, pieceAnswer}
 use Rattle.host.specs.Piece.{first, second, third, toldPiece}
 
 -- samples are bytes
@@ -107,7 +107,7 @@ abs-neg (negsuc n) = refl
 
 -- every case that holds floats
 cases : (t : Float → Bool) (z e i : Bool) (m : Centre) (f : Float) → (z ≡ false → (t (m .xs) ≡ false) × (t (m .ys) ≡ false) × (t f ≡ false))
-    → noneOf t (caseValues (cond z Straight (cond e (cond i (Corner m) Straight) (Branch m f)))) ≡ true
+    → noneOf t (cond z (caseOf Straight) (cond e (cond i (caseOf (Corner m)) (caseOf Straight)) (caseOf (Branch m f))) .values) ≡ true
 cases t true e i m f q = refl
 cases t false true true m f q = let n = q refl in rw (n .0, n .1) refl
 cases t false true false m f q = refl
@@ -142,7 +142,7 @@ module _ (t : Float → Bool) (k : ℕ) (quotients : (z : ℤ) (n : ℕ) → 0 <
         let n1 : (2 * k + 1) * (p1 + p3) ≤ 511 * 510 = mul-few 511 510 (omega arith) (omega arith) in
         few (excess p0 p1 p2 p3 k) _ _ (2 ^ 53) (is-sub (pos (2 * k + 1) *ℤ d p0 p1 p2 p3) (pos 2 *ℤ s p0 p1 p2 p3) _ _ _ _ x y) (omega arith) (omega arith)
 
-    of-each : noneOf t (caseValues (pieceOf p0 p1 p2 p3 k)) ≡ true
+    of-each : noneOf t (pieceOf p0 p1 p2 p3 k .values) ≡ true
     unfolding pieceOf
     of-each =
         cases t (isZero (d p0 p1 p2 p3)) (isZero (excess p0 p1 p2 p3 k)) (inside p0 p1 p2 p3) (centre p0 p1 p2 p3) (delta p0 p1 p2 p3 k)
@@ -153,11 +153,11 @@ module _ (t : Float → Bool) (k : ℕ) (quotients : (z : ℤ) (n : ℕ) → 0 <
           ratio-each (excess p0 p1 p2 p3 k) (pos 2 *ℤ (d p0 p1 p2 p3 *ℤ d p0 p1 p2 p3)) (q .0) (q .1) excess-few,
         ))
 
-  pub piece-each : (P : Picture) → Bytes P → (x y : ℕ) → noneOf t (caseValues (pieceAnswer P k x y eight .piece)) ≡ true
+  pub piece-each : (P : Picture) → Bytes P → (x y : ℕ) → noneOf t (pieceAnswer P k x y eight .piece .values) ≡ true
   piece-each P bytes x y =
       let i = cellAt P k x y in
-      either (λ (p : Piece). noneOf t (caseValues p)) (eqb (pieceVerdict P k x y eight .number) 0)
-      (pieceOf (at P i) (at P (i + P .w)) (at P (i + P .w + 1)) (at P (i + 1)) k) Refused
+      either (λ (p : Case). noneOf t (p .values)) (eqb (pieceVerdict P k x y eight .number) 0)
+      (pieceOf (at P i) (at P (i + P .w)) (at P (i + P .w + 1)) (at P (i + 1)) k) (caseOf Refused)
       (of-each (at P i) (at P (i + P .w)) (at P (i + P .w + 1)) (at P (i + 1)) (bytes i) (bytes (i + P .w)) (bytes (i + P .w + 1)) (bytes (i + 1))) refl
 
 -- ---- the piece as plain numbers
@@ -174,5 +174,5 @@ module _ (t : Float → Bool) (wholes : (n : ℕ) → t (whole n) ≡ false) whe
   in-third [] e = wholes 0
   in-third (x ∷ l) e = in-second l (and-2 (not (t x)) (noneOf t l) e)
 
-  pub told-each : (f : Found) → noneOf t (caseValues (f .piece)) ≡ true → noneOf t (toldPiece f .xs ∷ toldPiece f .ys ∷ toldPiece f .delta ∷ []) ≡ true
-  told-each f e = let l = caseValues (f .piece) in rw (in-first l e, in-second l e, in-third l e) refl
+  pub told-each : (f : Told) → noneOf t (f .piece .values) ≡ true → noneOf t (toldPiece f .xs ∷ toldPiece f .ys ∷ toldPiece f .delta ∷ []) ≡ true
+  told-each f e = let l = f .piece .values in rw (in-first l e, in-second l e, in-third l e) refl

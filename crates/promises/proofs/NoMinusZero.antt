@@ -21,7 +21,7 @@ use borrow.Author.Tests.{ne-eqb}
 use Rattle.matte.specs.Layout.{eight}
 use Rattle.matte.specs.Picture.{Picture}
 use Rattle.crossing.specs.Crossing.{whole, along, crossingAnswer}
-use Rattle.piece.specs.Piece.{caseValues, pieceAnswer}
+use Rattle.piece.specs.Piece.{pieceAnswer}
 use Rattle.host.specs.Piece.{toldPiece}
 use Rattle.promises.proofs.EachFloat.{Bytes, noneOf, either, held, crossing-each, piece-each, told-each}
 
@@ -167,7 +167,7 @@ along-not n a b = plus-is (add binary64 (whole n) (div binary64 (whole a) (whole
 pub crossing-plus : (P : Picture) → Bytes P → (k c : ℕ) → c < 2 ^ 32 → (minusZero (crossingAnswer P k c eight .x) ≡ false) × (minusZero (crossingAnswer P k c eight .y) ≡ false)
 crossing-plus P bytes k c code = crossing-each minusZero whole-not (λ n a b h p q. along-not n a b) P bytes k c code
 
-pub piece-plus : (P : Picture) → Bytes P → (k x y : ℕ) → k < 256 → noneOf minusZero (caseValues (pieceAnswer P k x y eight .piece)) ≡ true
+pub piece-plus : (P : Picture) → Bytes P → (k x y : ℕ) → k < 256 → noneOf minusZero (pieceAnswer P k x y eight .piece .values) ≡ true
 piece-plus P bytes k x y l = piece-each minusZero k (λ z n p q h. quotient-not z n p q (h l)) P bytes x y
 
 pub c-piece-plus : (P : Picture) → Bytes P → (k x y : ℕ) → k < 256

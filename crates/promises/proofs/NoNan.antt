@@ -16,7 +16,7 @@ use Rattle.tally.proofs.Test.{no}
 use Rattle.matte.specs.Layout.{eight}
 use Rattle.matte.specs.Picture.{Picture}
 use Rattle.crossing.specs.Crossing.{whole, along, crossingAnswer}
-use Rattle.piece.specs.Piece.{caseValues, pieceAnswer}
+use Rattle.piece.specs.Piece.{pieceAnswer}
 use Rattle.host.specs.Piece.{toldPiece}
 use Rattle.promises.proofs.EachFloat.{Bytes, noneOf, either, held, crossing-each, piece-each, told-each}
 
@@ -81,7 +81,7 @@ along-number n a b h p q = add-number binary64 (whole n) (div binary64 (whole a)
 pub crossing-numbers : (P : Picture) → Bytes P → (k c : ℕ) → c < 2 ^ 32 → (isNan (crossingAnswer P k c eight .x) ≡ false) × (isNan (crossingAnswer P k c eight .y) ≡ false)
 crossing-numbers P bytes k c code = crossing-each isNan (λ n. int-number (pos n)) along-number P bytes k c code
 
-pub piece-numbers : (P : Picture) → Bytes P → (k x y : ℕ) → noneOf isNan (caseValues (pieceAnswer P k x y eight .piece)) ≡ true
+pub piece-numbers : (P : Picture) → Bytes P → (k x y : ℕ) → noneOf isNan (pieceAnswer P k x y eight .piece .values) ≡ true
 piece-numbers P bytes k x y = piece-each isNan k (λ z n p q h. over-number z n p q) P bytes x y
 
 pub c-piece-numbers : (P : Picture) → Bytes P → (k x y : ℕ)

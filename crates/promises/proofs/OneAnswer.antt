@@ -4,7 +4,7 @@
 --   reference's address and contents.
 -- Main laws: `settled-as` a contract that says what the result and each last content are settles them, `settled` the same of the result itself; `NAME-one` it for each call. `part-one` is of
 --   what is `seen` of the part handed back: else a slice has only a name that no program has.
-use mathlib.Core.Path.{_≡_, refl, sym, _∙_}
+use mathlib.Core.Path.{_≡_, refl, sym, ap, _∙_}
 use Prim.Native.Nat.{ℕ}
 use contract.Lifetimes.{Lfts}
 use denote.Ref.{RefT, ptr, now}
@@ -15,6 +15,7 @@ use Rattle.tree.proofs as Tree
 use Rattle.frame.proofs as Frame
 use Rattle.crossing.proofs as Crossing
 use Rattle.piece.proofs as Piece
+use Rattle.piece.proofs.Back.{foundBy, found-back}
 use Rattle.paint.proofs as Paint
 use Rattle.olr.proofs as Olr
 use Rattle.form.proofs as Form
@@ -62,7 +63,7 @@ pub crossing-one : Settled Crossing.crossing_at.ended Crossing.crossing_at.Reads
 crossing-one = settled Crossing.crossing_at.ended Crossing.crossing_at.Reads.Learnt (λ κs a z ws p. (p, refl))
 
 pub piece-one : Settled Piece.piece_at.ended Piece.piece_at.Reads.Learnt
-piece-one = settled Piece.piece_at.ended Piece.piece_at.Reads.Learnt (λ κs a z ws p. (p, refl))
+piece-one = settled Piece.piece_at.ended Piece.piece_at.Reads.Learnt (λ κs a z ws p. (sym (found-back z) ∙ ap foundBy p, refl))
 
 pub part-one : SettledAs Paint.line_part.ended Paint.line_part.Reads.Learnt (λ κs z. seen z)
 part-one = settled-as Paint.line_part.ended Paint.line_part.Reads.Learnt (λ κs z. seen z) (λ κs a z ws p. (λ i. (p .1 i, p .0 i), refl))

@@ -28,7 +28,7 @@ use Rattle.enclosure.specs.Call.{treeRows, treeAnswer}
 use Rattle.frame.specs.Frame.{frameRows, frameAnswer}
 use Rattle.crossing.specs.Crossing.{whole, crossingRows, crossingVerdict, crossingAnswer}
 use Rattle.piece.specs.declared.Piece.the-variants.{Refused}
-use Rattle.piece.specs.Piece.{pieceRows, pieceVerdict, pieceAnswer}
+use Rattle.piece.specs.Piece.{caseOf, pieceRows, pieceVerdict, pieceAnswer}
 use Rattle.paint.specs.Part.{part}
 use Rattle.paint.specs.Member.{memberRows, memberVerdict, memberAnswer}
 use Rattle.paint.specs.Paint.{paintRows, paintAnswer}
@@ -194,8 +194,8 @@ crossing-nothing P k c q =
     let n : v .number ≢ 0 = refuses v 0 0 q in
     (refused-after v 0 _ n, refused-after v 0 _ n, refused-after v 0 _ n, refused-after v (whole 0) _ n, refused-after v (whole 0) _ n)
 
-pub piece-nothing : (P : Picture) (k x y : ℕ) → pieceAnswer P k x y eight .answer .number ≢ 0 → pieceAnswer P k x y eight .piece ≡ Refused
-piece-nothing P k x y q = let v = pieceVerdict P k x y eight in refused-after v Refused _ (refuses v 0 0 q)
+pub piece-nothing : (P : Picture) (k x y : ℕ) → pieceAnswer P k x y eight .answer .number ≢ 0 → pieceAnswer P k x y eight .piece ≡ caseOf Refused
+piece-nothing P k x y q = let v = pieceVerdict P k x y eight in refused-after v (caseOf Refused) _ (refuses v 0 0 q)
 
 pub member-nothing : (w h : ℕ) (ws : List ℕ) (n x y : ℕ) → memberAnswer eight w h ws n x y .answer .number ≢ 0 → memberAnswer eight w h ws n x y .inside ≡ false
 member-nothing w h ws n x y q = let v = memberVerdict eight w h ws n x y in refused-after v false _ (refuses v 0 0 q)

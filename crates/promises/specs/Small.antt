@@ -9,7 +9,7 @@ use Rattle.matte.specs.Picture.{Picture, picture}
 use Rattle.outline.specs.Line.{lines}
 use Rattle.outline.specs.List.{listVerdict}
 use Rattle.enclosure.specs.Tree.{entries}
-use Rattle.piece.specs.Piece.{pieceAnswer, caseNumber}
+use Rattle.piece.specs.Piece.{pieceAnswer}
 use Rattle.frame.specs.Frame.{frameVerdict}
 
 -- the pictures: 3 by 3 with a centre, the 4 by 4 of the paper's example, and flat ones (01, Small pictures to hold by proof)
@@ -37,7 +37,7 @@ shown =
     ∷ lines (flat 2 2) 0
     ∷ lines (flat 2 2) 5
     ∷ (entries eight pair (0 ∷ 1 ∷ []) ∷ [])
-    ∷ ((caseNumber (pieceAnswer pair 0 1 1 eight .piece) ∷ caseNumber (pieceAnswer pair 1 1 1 eight .piece) ∷ []) ∷ [])
+    ∷ ((pieceAnswer pair 0 1 1 eight .piece .number ∷ pieceAnswer pair 1 1 1 eight .piece .number ∷ []) ∷ [])
     ∷ ((listVerdict eight (flat 2 2) (254 ∷ []) (replicate 4 0) [] .number ∷ listVerdict eight (flat 2 2) (255 ∷ []) (replicate 4 0) [] .number ∷ []) ∷ [])
     ∷ ((frameVerdict eight (flat 2048 2) (replicate 4096 0) .number ∷ frameVerdict eight (flat 2 2048) (replicate 4096 0) .number ∷ frameVerdict eight (flat 2049 2) (replicate 4098 0) .number ∷ frameVerdict eight (flat 2 2049) (replicate 4098 0) .number ∷ []) ∷ [])
     ∷ []

@@ -39,7 +39,7 @@ returns-2 : tie.Need-returns-2
 returns-2 c =
     let a = c .before .before .before .before .before .before .args in
     let P = picture (a .w) (a .h) (a .px .now) in
-    done-is P (a .k) (a .x) (a .y) _ (c .before .before .before .before .piece-verdict .ensures) (c .before .before .before .if1 .left) _ _ (c .before .corners-at .ensures) (c .before .before .place-of .ensures) _ (c .piece-of .ensures)
+    done-is P (a .k) (a .x) (a .y) _ (c .before .before .before .before .piece-verdict .ensures) (c .before .before .before .if1 .left) _ _ (c .before .corners-at .ensures) (c .before .before .place-of .ensures) (c .piece-of .result) (c .piece-of .ensures)
 
 pub piece-at-spec : {M : Type 1} → statement M
 piece-at-spec =

@@ -159,7 +159,7 @@ struct loafcanyon_member_answer {
   bool inside;
 };
 
-/* The line is words[start] to words[start + count - 1]. There is no such line: count is 0, start is the count of all words. */
+/* The line is words[start] to words[start + count - 1]. There is no such line: start and count are 0. */
 struct loafcanyon_part_answer {
   size_t start;
   size_t count;

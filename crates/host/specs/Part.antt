@@ -7,6 +7,6 @@ use Rattle.matte.specs.Layout.{eight}
 use Rattle.paint.specs.Part.{part, partStart}
 use Rattle.host.specs.declared.LinePlace.{LinePlace}
 
--- a line without words starts at the list's end (01, Framing, membership, painting)
+-- start 0 and count 0 for a line that is not there (01, Numbers for a refused call)
 abbrev pub partPlace : ℕ → List ℕ → LinePlace
 partPlace n ws = record { start = partStart eight n ws; count = length (part eight n ws) }

@@ -1,5 +1,5 @@
 -- All lines of a word list. Assumes nothing.
--- Main laws: `part-empty` a line past the last is empty; `part-some` any other is not; `part-exact` the two together; `parts-all` the lines one after the other are the list from its first flag on.
+-- Main laws: `part-empty` a line past the last is empty; `part-some` any other is not; `part-exact` the two together; `part-nowhere` a line past the last starts at 0; `parts-all` the lines one after the other are the list from its first flag on.
 use mathlib.Core.Path.{_≡_, refl, sym, ap, _∙_}
 use mathlib.Core.Bool.{true, false}
 use mathlib.Core.List.{List, [], _∷_, _++_}
@@ -15,8 +15,8 @@ use Rattle.tally.proofs.Test.{by-test}
 use Rattle.tally.proofs.First.{first-yes, first-no}
 use Rattle.matte.specs.Layout.{Layout}
 use Rattle.edgel.specs.Word.{flagged}
-use Rattle.paint.specs.Part.{rest, part}
-use Rattle.paint.proofs.Lines.{rest-yes, rest-no, part-yes, part-next, part-no}
+use Rattle.paint.specs.Part.{rest, part, wordsBefore, partStart}
+use Rattle.paint.proofs.Lines.{rest-yes, rest-no, part-yes, part-next, part-no, before-next, before-no, start-none}
 
 -- g i, .., g (i + m - 1)
 abbrev row : (ℕ → List ℕ) → ℕ → ℕ → List (List ℕ)
@@ -69,6 +69,22 @@ module _ (L : Layout) where
       by-test (flagged L u)
       (λ e. rw (part-next L n u ws e) (part-some n ws (omega (arith, tally-yes u ws e))))
       (λ e. rw (part-no L (suc n) u ws e) (part-some (suc n) ws (omega (arith, tally-no u ws e))))
+
+  before-all : (n : ℕ) (ws : List ℕ) → tally (flagged L) ws ≤ n → wordsBefore L n ws ≡ length ws
+  unfolding wordsBefore
+  before-all n [] h = refl
+  before-all zero (u ∷ ws) h =
+      by-test (flagged L u)
+      (λ e. absurd (omega (arith, tally-yes u ws e)))
+      (λ e. omega (arith, before-no L zero u ws e, before-all zero ws (omega (arith, tally-no u ws e))))
+  before-all (suc n) (u ∷ ws) h =
+      by-test (flagged L u)
+      (λ e. omega (arith, before-next L n u ws e, before-all n ws (omega (arith, tally-yes u ws e))))
+      (λ e. omega (arith, before-no L (suc n) u ws e, before-all (suc n) ws (omega (arith, tally-no u ws e))))
+
+  -- a line that is not there starts at 0
+  pub part-nowhere : (n : ℕ) (ws : List ℕ) → tally (flagged L) ws ≤ n → partStart L n ws ≡ 0
+  part-nowhere n ws h = start-none L n ws (omega (arith, before-all n ws h))
 
   -- a line is empty exactly if there is no such line
   pub part-exact : (n : ℕ) (ws : List ℕ) → ltb 0 (length (part L n ws)) ≡ ltb n (tally (flagged L) ws)

@@ -1,8 +1,10 @@
 -- The lines of any word list. Assumes nothing.
--- Definitions: `rest` the words before the next flagged one; `part` line n; `partStart` its place; `wordOn` the address some words on.
-use mathlib.Core.Bool.{Bool, true, false}
+-- Definitions: `rest` the words before the next flagged one; `part` line n; `wordsBefore` the number of words before it; `partStart` its place; `wordOn` the address some words on.
+use mathlib.Core.Bool.{Bool, true, false, cond}
 use mathlib.Core.List.{List, [], _∷_}
 use Prim.Native.Nat.{ℕ, zero, suc, _+_, _*_}
+use lib.Dec.{ltb}
+use lib.ListN.{length}
 use Rattle.matte.specs.Layout.{Layout}
 use Rattle.edgel.specs.Word.{flagged}
 
@@ -22,6 +24,10 @@ module _ (L : Layout) where
   part n (u ∷ ws) = elim (flagged L u) [ true ↦ elim n [ zero ↦ u ∷ rest ws | suc m ↦ part m ws ] | false ↦ part n ws ]
 
   -- the number of words before line n, all of them where there is none (01, Framing, membership, painting)
+  unfoldable pub wordsBefore : ℕ → List ℕ → ℕ
+  wordsBefore n [] = 0
+  wordsBefore n (u ∷ ws) = elim (flagged L u) [ true ↦ elim n [ zero ↦ 0 | suc m ↦ wordsBefore m ws + 1 ] | false ↦ wordsBefore n ws + 1 ]
+
+  -- where line n starts, 0 where there is none (01, Numbers for a refused call)
   unfoldable pub partStart : ℕ → List ℕ → ℕ
-  partStart n [] = 0
-  partStart n (u ∷ ws) = elim (flagged L u) [ true ↦ elim n [ zero ↦ 0 | suc m ↦ partStart m ws + 1 ] | false ↦ partStart n ws + 1 ]
+  partStart n ws = cond (ltb (wordsBefore n ws) (length ws)) (wordsBefore n ws) 0

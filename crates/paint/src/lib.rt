@@ -24,7 +24,7 @@ ghost use Rattle.matte.specs.Picture.{levelsFit};
 ghost use Rattle.matte.specs.Refusal.{row, verdict, sidesRow, levelsRow};
 ghost use Rattle.edgel.specs.Word.{codesRow, wordsFitRow};
 ghost use Rattle.refuse.specs.Shape.{Sides};
-ghost use Rattle.paint.specs.Part.{rest, part, partStart, wordOn};
+ghost use Rattle.paint.specs.Part.{rest, part, wordsBefore, partStart, wordOn};
 ghost use Rattle.paint.specs.Span.{whole, inSpan};
 ghost use Rattle.paint.specs.Member.{inside, memberAnswer};
 ghost use Rattle.paint.specs.Paint.{paintAnswer, paintRoom};
@@ -36,9 +36,9 @@ pub struct Membership {
     pub inside: bool,
 }
 
-// Where line n starts, or the length.
-pub fn start_of(words: &[u32], n: usize) -> usize
-    ensures { λ r. ⌜ (r ≤ length (now (words .entry))) × (r ≡ partStart eight n (now (words .entry))) ⌝ }
+// How many words stand before line n, all of them where there is none.
+fn words_before(words: &[u32], n: usize) -> usize
+    ensures { λ r. ⌜ (r ≤ length (now (words .entry))) × (r ≡ wordsBefore eight n (now (words .entry))) ⌝ }
 {
     let mut left = n;
     let mut i = 0;
@@ -52,6 +52,17 @@ pub fn start_of(words: &[u32], n: usize) -> usize
         i += 1;
     }
     i
+}
+
+// Where line n starts, 0 where there is none.
+pub fn start_of(words: &[u32], n: usize) -> usize
+    ensures { λ r. ⌜ r ≡ partStart eight n (now (words .entry)) ⌝ }
+{
+    let a = words_before(words, n);
+    if words.len() <= a {
+        return 0;
+    }
+    a
 }
 
 // How many words stand before the next flagged one.
@@ -68,17 +79,17 @@ fn run_of(s: &[u32]) -> usize
     i
 }
 
-// Line n of a word list, a part of that list itself; empty where there is none.
+// Line n of a word list, a part of that list itself; empty, at the list's start, where there is none.
 pub fn line_part(words: &[u32], n: usize) -> &[u32]
     ensures { λ r. ⌜ (now r ≡ part eight n (now (words .entry))) × (ptr r ≡ wordOn (ptr (words .entry)) (partStart eight n (now (words .entry)))) ⌝ }
 {
-    let a = start_of(words, n);
+    let a = words_before(words, n);
     if a < words.len() {
         let b = a + 1;
         let e = a + 1 + run_of(&words[b..]);
         return &words[a..e];
     }
-    &words[a..a]
+    &words[0..0]
 }
 
 // 1 for a horizontal code whose place is among the x places from lo on, else 0.

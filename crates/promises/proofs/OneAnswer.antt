@@ -69,7 +69,7 @@ pub part-one : SettledAs Paint.line_part.ended Paint.line_part.Reads.Learnt (λ 
 part-one = settled-as Paint.line_part.ended Paint.line_part.Reads.Learnt (λ κs z. seen z) (λ κs a z ws p. (λ i. (p .1 i, p .0 i), refl))
 
 pub start-one : Settled Paint.start_of.ended Paint.start_of.Reads.Learnt
-start-one = settled Paint.start_of.ended Paint.start_of.Reads.Learnt (λ κs a z ws p. (p .1, refl))
+start-one = settled Paint.start_of.ended Paint.start_of.Reads.Learnt (λ κs a z ws p. (p, refl))
 
 pub member-one : Settled Paint.member.ended Paint.member.Reads.Learnt
 member-one = settled Paint.member.ended Paint.member.Reads.Learnt (λ κs a z ws p. (p, refl))

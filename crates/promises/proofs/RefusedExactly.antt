@@ -2,7 +2,7 @@
 -- Definitions: `numbers` the numbers of rows; `Exactly` what is said of a call: its numbers in the paper's order, which of them is answered, with what, and when the call is done; `single` each number stands once.
 -- Main laws: `exactly` it holds of every answer that is made from rows whose numbers differ; `list-exactly`, `tree-exactly`, `frame-exactly`, `crossing-exactly`, `piece-exactly`, `member-exactly`, `paint-exactly`,
 --   `write-exactly`, `read-exactly` it for each call with an answer, of the rows in the call's definition; `part-exactly` the line part, whose 11 is an empty part alone; `c-piece-exactly`, `c-part-exactly` the two calls for
---   C that tell their answers in another form, where the other eight have the base's; `crossing-nothing`, `piece-nothing`, `member-nothing`, `read-nothing` what the answer else holds where it is refused;
+--   C that tell their answers in another form, where the other eight have the base's; `crossing-nothing`, `piece-nothing`, `part-nothing`, `member-nothing`, `read-nothing` what the answer else holds where it is refused;
 --   `same-number`, `refuses` the number answered is the verdict's.
 use mathlib.Core.Path.{_≡_, refl, sym, ap, subst, _∙_}
 use mathlib.Core.Bool.{Bool, true, false, not, _&&_}
@@ -32,7 +32,7 @@ use Rattle.piece.specs.Piece.{caseOf, pieceRows, pieceVerdict, pieceAnswer}
 use Rattle.paint.specs.Part.{part}
 use Rattle.paint.specs.Member.{memberRows, memberVerdict, memberAnswer}
 use Rattle.paint.specs.Paint.{paintRows, paintAnswer}
-use Rattle.paint.proofs.Parts.{part-empty, part-some}
+use Rattle.paint.proofs.Parts.{part-empty, part-some, part-nowhere}
 use Rattle.olr.specs.File.{writeRows, writeAnswer}
 use Rattle.olr.specs.Read.{fileWordCount, fileWords, readRows, readVerdict, readAnswer}
 use Rattle.host.specs.Piece.{toldPiece}
@@ -196,6 +196,9 @@ crossing-nothing P k c q =
 
 pub piece-nothing : (P : Picture) (k x y : ℕ) → pieceAnswer P k x y eight .answer .number ≢ 0 → pieceAnswer P k x y eight .piece ≡ caseOf Refused
 piece-nothing P k x y q = let v = pieceVerdict P k x y eight in refused-after v (caseOf Refused) _ (refuses v 0 0 q)
+
+pub part-nothing : (n : ℕ) (ws : List ℕ) → tally (flagged eight) ws ≤ n → (partPlace n ws .start ≡ 0) × (partPlace n ws .count ≡ 0)
+part-nothing n ws h = (part-nowhere eight n ws h, ap (λ (l : List ℕ). length l) (part-empty eight n ws h))
 
 pub member-nothing : (w h : ℕ) (ws : List ℕ) (n x y : ℕ) → memberAnswer eight w h ws n x y .answer .number ≢ 0 → memberAnswer eight w h ws n x y .inside ≡ false
 member-nothing w h ws n x y q = let v = memberVerdict eight w h ws n x y in refused-after v false _ (refuses v 0 0 q)

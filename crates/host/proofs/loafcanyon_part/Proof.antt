@@ -13,7 +13,7 @@ line-part-requires : tie.Need-line-part-requires
 line-part-requires c κs = search needs
 
 returns : tie.Need-returns
-returns c = rw (c .before .start-of .ensures .1, c .line-part .ensures .0)
+returns c = rw (c .before .start-of .ensures, c .line-part .ensures .0)
 
 pub loafcanyon-part-spec : {M : Type 1} → statement M
 loafcanyon-part-spec = tie.close (tie.spec start-of-requires line-part-requires returns)

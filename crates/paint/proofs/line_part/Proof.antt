@@ -7,14 +7,14 @@ use borrow.Author.Needs.{needs}
 use lib.ListN.{length, take, drop, length-drop}
 use lib.Seq.{drop-length, take-all}
 use Rattle.matte.specs.Layout.{eight}
-use Rattle.paint.specs.Part.{part, partStart, wordOn}
+use Rattle.paint.specs.Part.{part, wordsBefore, wordOn}
 use Rattle.paint.specs.Span.{whole}
-use Rattle.paint.proofs.Lines.{whole-at, part-start}
+use Rattle.paint.proofs.Lines.{whole-at, part-before, start-here, start-none}
 use Rattle.paint.proofs.line_part.Statement.{statement}
 use Rattle.paint.proofs.line_part.Tie as tie
 
-start-of-requires : tie.Need-start-of-requires
-start-of-requires c κs = search needs
+words-before-requires : tie.Need-words-before-requires
+words-before-requires c κs = search needs
 
 add-b : tie.Need-add-b
 add-b c = search needs
@@ -56,8 +56,8 @@ part-result-end c = search needs
 to-end : (s : List ℕ) (b : ℕ) → take (length s - b) (drop b s) ≡ drop b s
 to-end s b = take-all (length s - b) (drop b s) (omega (arith, length-drop b s))
 
-there : (s : List ℕ) (n a : ℕ) → a ≡ partStart eight n s → part eight n s ≡ whole eight (drop a s)
-there s n a e = part-start eight n s ∙ ap (λ (k : ℕ). whole eight (drop k s)) (sym e)
+there : (s : List ℕ) (n a : ℕ) → a ≡ wordsBefore eight n s → part eight n s ≡ whole eight (drop a s)
+there s n a e = part-before eight n s ∙ ap (λ (k : ℕ). whole eight (drop k s)) (sym e)
 
 -- the address of the part
 on-by : {s : ℕ} (p : ℕ × ℕ) (a : ℕ) → a ≡ s → (p .0, a * 4 + p .1) ≡ wordOn p s
@@ -67,15 +67,12 @@ returns : tie.Need-returns
 returns c =
     let d = c .before .before .before .before in
     let s = d .before .before .args .words .now in
-    let a = d .start-of .result in
+    let a = d .words-before .result in
     let r = c .before .run-of .result in
     let h : a < length s = omega arith in (
-      whole-at eight s a h r (a + 1 + r - a) (rw (to-end s (a + 1)) at (c .before .run-of .ensures .1)) (omega arith) ∙ sym (there s (d .before .before .args .n) a (d .start-of .ensures .1)),
-      on-by (d .before .before .args .words .ptr) a (d .start-of .ensures .1),
+      whole-at eight s a h r (a + 1 + r - a) (rw (to-end s (a + 1)) at (c .before .run-of .ensures .1)) (omega arith) ∙ sym (there s (d .before .before .args .n) a (d .words-before .ensures .1)),
+      on-by (d .before .before .args .words .ptr) a (d .words-before .ensures .1 ∙ sym (start-here eight (d .before .before .args .n) s (omega (arith, d .words-before .ensures .1)))),
     )
-
-mul-result-2 : tie.Need-mul-result-2
-mul-result-2 c = search needs
 
 sub-result-2 : tie.Need-sub-result-2
 sub-result-2 c = search needs
@@ -91,17 +88,16 @@ unfolding whole
 returns-2 c =
     let d = c .before .before in
     let s = d .before .before .args .words .now in
-    let a = d .start-of .result in
+    let a = d .words-before .result in
     let n = d .before .before .args .n in
-    let e : a ≡ length s = omega (arith, d .start-of .ensures .0) in
-    let z : a - a ≡ 0 = omega arith in
-    (rw z (sym (there s n a (d .start-of .ensures .1) ∙ rw (e, drop-length s))), on-by (d .before .before .args .words .ptr) a (d .start-of .ensures .1))
+    let e : a ≡ length s = omega (arith, d .words-before .ensures .0) in
+    (sym (there s n a (d .words-before .ensures .1) ∙ rw (e, drop-length s)), on-by (d .before .before .args .words .ptr) 0 (sym (start-none eight n s (omega (arith, d .words-before .ensures .1)))))
 
 pub line-part-spec : {M : Type 1} → statement M
 line-part-spec =
     tie.close
     (tie.spec
-    start-of-requires
+    words-before-requires
     add-b
     add-e
     mul-run-of
@@ -115,7 +111,6 @@ line-part-spec =
     part-result-start
     part-result-end
     returns
-    mul-result-2
     sub-result-2
     part-result-start-2
     part-result-end-2

@@ -68,6 +68,8 @@ pub enum Fault {
     ColumnIncluded,
     /// Words before the first flag are line 0.
     LineWithoutFlag,
+    /// A line that is not there is told to start at the end of the list.
+    NoLineAtEnd,
     /// The form takes numbers with leading zeros.
     LeadingZeros,
     /// The form takes one newline after the samples.
@@ -76,7 +78,7 @@ pub enum Fault {
 
 impl Fault {
     /// Every wrong variant.
-    pub const ALL: [Fault; 34] = [
+    pub const ALL: [Fault; 35] = [
         Fault::SaddleSouthOnly,
         Fault::EqualityRightOnce,
         Fault::EqualityRight,
@@ -109,6 +111,7 @@ impl Fault {
         Fault::EqualWordsOnce,
         Fault::ColumnIncluded,
         Fault::LineWithoutFlag,
+        Fault::NoLineAtEnd,
         Fault::LeadingZeros,
         Fault::TrailingNewline,
     ];

@@ -16,7 +16,7 @@ pub struct Read {
     pub answer: Answer,
     pub w: u32,
     pub h: u32,
-    pub border: u8,
+    pub border: u32,
     pub count: u32,
     pub levels: [u8; 255],
 }
@@ -94,7 +94,7 @@ impl Second {
             answer: Answer::listed(&list),
             w: w as u32,
             h: h as u32,
-            border: head[8],
+            border: head[8] as u32,
             count: levels.len() as u32,
             levels: all_levels,
         })

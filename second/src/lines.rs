@@ -5,14 +5,15 @@ use crate::refusal::{self, in_order, refuse, Answer};
 use crate::{word, Fault, Second};
 
 impl Second {
-    /// Line n of a word list as a part of that list, empty if there is none.
+    /// Line n of a word list as a part of that list, empty and at its start if there is none.
     pub fn line_part<'a>(&self, words: &'a [u32], n: usize) -> &'a [u32] {
         let mut starts: Vec<usize> = (0..words.len()).filter(|&place| word::flagged(words[place])).collect();
         if self.wrong(Fault::LineWithoutFlag) && !words.is_empty() && starts.first() != Some(&0) {
             starts.insert(0, 0);
         }
         match starts.get(n) {
-            None => &[],
+            None if self.wrong(Fault::NoLineAtEnd) => &words[words.len()..],
+            None => &words[..0],
             Some(&start) => &words[start..starts.get(n + 1).copied().unwrap_or(words.len())],
         }
     }

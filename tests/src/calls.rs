@@ -1,6 +1,6 @@
 //! The calls of the product as the suite sees them.
 
-use second::{Answer, Crossing, Piece, Read, Second};
+use second::{Answer, Centre, Crossing, Piece, Read, Second};
 
 /// The name of each call.
 #[derive(Clone, Copy, Debug, Default, PartialEq, Eq, PartialOrd, Ord)]
@@ -34,6 +34,21 @@ pub const ALL: [Call; 11] = [
     Call::Listing,
 ];
 
+/// What the piece call says: the number of the case (refused, straight, corner, branch: 0 to 3), then xs, ys and delta, +0 where the case holds none.
+#[derive(Clone, Copy, Debug)]
+pub struct Shape {
+    pub answer: Answer,
+    pub kind: u32,
+    pub floats: [f64; 3],
+}
+
+/// Where a line lies in its list.
+#[derive(Clone, Copy, Debug, PartialEq)]
+pub struct Part {
+    pub start: usize,
+    pub count: usize,
+}
+
 /// A program under test.
 #[allow(clippy::too_many_arguments)]
 pub trait Calls: Sync {
@@ -43,9 +58,8 @@ pub trait Calls: Sync {
     ) -> Answer;
     fn frame(&self, w: usize, h: usize, px: &[u8], room: &mut [u8]) -> Answer;
     fn crossing(&self, w: usize, h: usize, px: &[u8], level: u8, code: u32) -> Crossing;
-    fn piece(&self, w: usize, h: usize, px: &[u8], level: u8, x: usize, y: usize) -> (Answer, Piece);
-    /// The part must lie in the given list itself.
-    fn line_part<'a>(&self, words: &'a [u32], n: usize) -> &'a [u32];
+    fn piece(&self, w: usize, h: usize, px: &[u8], level: u8, x: usize, y: usize) -> Shape;
+    fn line_part(&self, words: &[u32], n: usize) -> Part;
     fn member(&self, w: usize, h: usize, words: &[u32], n: usize, x: usize, y: usize) -> (Answer, bool);
     fn paint(&self, w: usize, h: usize, v: u8, levels: &[u8], words: &[u32], room: &mut [u8]) -> Answer;
     fn write(&self, w: usize, h: usize, v: u8, levels: &[u8], words: &[u32], file: &mut [u8]) -> Answer;
@@ -72,12 +86,21 @@ impl Calls for Second {
         Second::crossing(self, w, h, px, level, code)
     }
 
-    fn piece(&self, w: usize, h: usize, px: &[u8], level: u8, x: usize, y: usize) -> (Answer, Piece) {
-        Second::piece(self, w, h, px, level, x, y)
+    fn piece(&self, w: usize, h: usize, px: &[u8], level: u8, x: usize, y: usize) -> Shape {
+        let (answer, piece) = Second::piece(self, w, h, px, level, x, y);
+        let (kind, floats) = match piece {
+            Piece::Refused => (0, [0.0; 3]),
+            Piece::Straight => (1, [0.0; 3]),
+            Piece::Corner(Centre { xs, ys }) => (2, [xs, ys, 0.0]),
+            Piece::Branch(Centre { xs, ys }, delta) => (3, [xs, ys, delta]),
+        };
+        Shape { answer, kind, floats }
     }
 
-    fn line_part<'a>(&self, words: &'a [u32], n: usize) -> &'a [u32] {
-        Second::line_part(self, words, n)
+    fn line_part(&self, words: &[u32], n: usize) -> Part {
+        let part = Second::line_part(self, words, n);
+        let bytes = part.as_ptr() as usize - words.as_ptr() as usize;
+        Part { start: bytes / size_of::<u32>(), count: part.len() }
     }
 
     fn member(&self, w: usize, h: usize, words: &[u32], n: usize, x: usize, y: usize) -> (Answer, bool) {

@@ -4,9 +4,9 @@ use std::fmt;
 use std::panic::{self, catch_unwind, AssertUnwindSafe};
 use std::sync::atomic::{AtomicBool, Ordering};
 
-use second::{Answer, Piece, Read};
+use second::{Answer, Read};
 
-use crate::calls::{Call, Calls};
+use crate::calls::{Call, Calls, Part, Shape};
 use crate::lent::{Lent, Room};
 use crate::show::show;
 
@@ -41,21 +41,9 @@ pub struct Case {
 #[derive(Clone, PartialEq)]
 pub enum Said {
     Plain(Answer),
-    Crossing {
-        answer: Answer,
-        heading: u32,
-        num: u32,
-        den: u32,
-        x: u64,
-        y: u64,
-    },
-    Piece {
-        answer: Answer,
-        name: &'static str,
-        floats: Vec<u64>,
-    },
-    /// Where the part lies in the list, or nothing if it does not lie there.
-    Part(Option<(usize, usize)>),
+    Crossing { answer: Answer, heading: u32, num: u32, den: u32, x: u64, y: u64 },
+    Piece { answer: Answer, kind: u32, floats: [u64; 3] },
+    Part(Part),
     Member(Answer, bool),
     Read(Box<Read>),
     Listing(Vec<u8>),
@@ -117,26 +105,10 @@ pub fn panics_in_cases_are_silent() {
     }));
 }
 
-/// A piece by its name and the bits of its floats.
-pub fn piece_bits(answer: Answer, piece: Piece) -> Said {
-    let (name, floats) = match piece {
-        Piece::Refused => ("refused", vec![]),
-        Piece::Straight => ("straight", vec![]),
-        Piece::Corner(c) => ("corner", vec![c.xs, c.ys]),
-        Piece::Branch(c, delta) => ("branch", vec![c.xs, c.ys, delta]),
-    };
-    Said::Piece { answer, name, floats: floats.into_iter().map(f64::to_bits).collect() }
-}
-
-/// Where a part lies in its list. Every empty part counts as the same.
-fn place_in(list: &[u32], part: &[u32]) -> Option<(usize, usize)> {
-    if part.is_empty() {
-        return Some((0, 0));
-    }
-    let bytes = (part.as_ptr() as usize).checked_sub(list.as_ptr() as usize)?;
-    let start = bytes / size_of::<u32>();
-    let end = start + part.len();
-    (bytes % size_of::<u32>() == 0 && end <= list.len()).then_some((start, end))
+/// A piece with the bits of its floats.
+pub fn piece_bits(shape: Shape) -> Said {
+    let Shape { answer, kind, floats } = shape;
+    Said::Piece { answer, kind, floats: floats.map(f64::to_bits) }
 }
 
 impl Case {
@@ -191,11 +163,8 @@ impl Case {
                 let (x, y) = (c.x.to_bits(), c.y.to_bits());
                 Said::Crossing { answer: c.answer, heading: c.heading, num: c.num, den: c.den, x, y }
             }
-            Call::Piece => {
-                let (answer, piece) = calls.piece(w, h, px, self.level, self.x, self.y);
-                piece_bits(answer, piece)
-            }
-            Call::LinePart => Said::Part(place_in(words, calls.line_part(words, self.n))),
+            Call::Piece => piece_bits(calls.piece(w, h, px, self.level, self.x, self.y)),
+            Call::LinePart => Said::Part(calls.line_part(words, self.n)),
             Call::Member => {
                 let (answer, inside) = calls.member(w, h, words, self.n, self.x, self.y);
                 Said::Member(answer, inside)

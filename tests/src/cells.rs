@@ -1,8 +1,8 @@
 //! Group: the crossing of every edgel and the piece of every cell.
 
-use second::{Piece, Second};
+use second::Second;
 
-use crate::calls::Call;
+use crate::calls::{Call, Calls};
 use crate::case::{piece_bits, Case};
 use crate::pictures;
 use crate::rng::Rng;
@@ -91,20 +91,19 @@ fn crossing(run: &mut Run, met: &mut Met, case: &Case) {
 
 fn piece(run: &mut Run, met: &mut Met, case: &Case) {
     let (w, h, px) = (case.w, case.h, &case.px[..]);
-    let (answer, piece) = run.subject.piece(w, h, px, case.level, case.x, case.y);
-    let (true_answer, true_piece) = Second::TRUE.piece(w, h, px, case.level, case.x, case.y);
+    let shape = run.subject.piece(w, h, px, case.level, case.x, case.y);
+    let truth = Calls::piece(&Second::TRUE, w, h, px, case.level, case.x, case.y);
     run.count(1);
-    let same_floats = piece == true_piece && piece_bits(answer, piece) == piece_bits(true_answer, true_piece);
-    if answer != true_answer || !same_floats {
+    if piece_bits(shape) != piece_bits(truth) {
         return run.fail_compared(case);
     }
-    if answer.number == 0 {
+    if shape.answer.number == 0 {
         met.pieces += 1;
-        match piece {
-            Piece::Straight => met.straight += 1,
-            Piece::Corner(_) => met.corners += 1,
-            Piece::Branch(..) => met.branches += 1,
-            Piece::Refused => run.direct(case, Some("done and refused".to_string())),
+        match shape.kind {
+            1 => met.straight += 1,
+            2 => met.corners += 1,
+            3 => met.branches += 1,
+            _ => run.direct(case, Some("done and refused".to_string())),
         }
         let at = |dx: usize, dy: usize| px[(case.y + dy) * w + case.x + dx] as i64;
         let [a, b, c, d] = [at(0, 0), at(1, 0), at(1, 1), at(0, 1)];
@@ -113,10 +112,7 @@ fn piece(run: &mut Run, met: &mut Met, case: &Case) {
             met.saddles += 1;
             let met_exactly = (2 * case.level as i64 + 1) * (a + c - b - d) == 2 * (a * c - b * d);
             met.saddles_met += met_exactly as u64;
-            run.direct(
-                case,
-                (met_exactly != matches!(piece, Piece::Corner(_))).then(|| "a saddle met is a corner".to_string()),
-            );
+            run.direct(case, (met_exactly != (shape.kind == 2)).then(|| "a saddle met is a corner".to_string()));
         }
     }
 }

@@ -145,7 +145,7 @@ fn stored(calls: &dyn Calls, picture: &Picture, levels: &[u8], words: &[u32]) ->
     let outcome = done(calls, &Case { call: Call::Read, input: file, places, ..Case::default() })?;
     let Said::Read(read) = &outcome.said else { return Err("no answer".to_string()) };
     let same = outcome.words() == words
-        && (read.w as usize, read.h as usize, read.border) == (picture.w, picture.h, picture.px[0])
+        && (read.w as usize, read.h as usize, read.border) == (picture.w, picture.h, picture.px[0] as u32)
         && read.levels[..read.count as usize] == *levels;
     same.then_some(1).ok_or("the file does not read back".to_string())
 }

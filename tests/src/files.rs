@@ -68,7 +68,7 @@ fn reads_back(parts: &Parts, outcome: &Outcome) -> bool {
     read.answer.number == 0
         && read.answer.lines == lines
         && (read.w as usize, read.h as usize, read.border, read.count as usize)
-            == (parts.w, parts.h, parts.border, count)
+            == (parts.w, parts.h, parts.border as u32, count)
         && read.levels[..count] == parts.levels
         && read.levels[count..].iter().all(|&level| level == 0)
         && outcome.words() == parts.words
@@ -94,7 +94,7 @@ fn read(run: &mut Run, rng: &mut Rng, file: &[u8], places: usize) -> Option<Outc
     let outcome = run.check(&case)?;
     if let (Said::Read(read), 0) = (&outcome.said, outcome.number()) {
         let levels = read.levels[..read.count as usize].to_vec();
-        let (w, h, border) = (read.w as usize, read.h as usize, read.border);
+        let (w, h, border) = (read.w as usize, read.h as usize, read.border as u8);
         let parts = Parts { w, h, border, levels, words: outcome.words().to_vec() };
         let written = write_case(&parts, Room::exact(rng, file.len())).run(run.subject);
         let wrong = blocks::build(&parts) != file || written.number() != 0 || written.room != file;

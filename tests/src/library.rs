@@ -6,9 +6,9 @@
 use std::io::{ErrorKind, Write};
 use std::process::{Command, Stdio};
 
-use second::{Answer, Centre, Crossing, Piece, Read};
+use second::{Answer, Crossing, Read};
 
-use crate::calls::Calls;
+use crate::calls::{Calls, Part, Shape};
 use crate::loafcanyon;
 
 /// The linked library.
@@ -40,27 +40,25 @@ impl Calls for Library {
         Crossing { answer: t.answer.into(), heading: t.heading, num: t.num, den: t.den, x: t.x, y: t.y }
     }
 
-    fn piece(&self, w: usize, h: usize, px: &[u8], level: u8, x: usize, y: usize) -> (Answer, Piece) {
+    fn piece(&self, w: usize, h: usize, px: &[u8], level: u8, x: usize, y: usize) -> Shape {
         let t = loafcanyon::piece(w, h, px, level, x, y);
-        let centre = Centre { xs: t.xs, ys: t.ys };
-        let piece = match t.kind {
-            0 => Piece::Refused,
-            1 => Piece::Straight,
-            2 => Piece::Corner(centre),
-            3 => Piece::Branch(centre, t.delta),
-            other => panic!("the library has no piece of kind {other}"),
-        };
-        (t.answer.into(), piece)
+        Shape { answer: t.answer.into(), kind: t.kind, floats: [t.xs, t.ys, t.delta] }
     }
 
-    fn line_part<'a>(&self, words: &'a [u32], n: usize) -> &'a [u32] {
+    fn line_part(&self, words: &[u32], n: usize) -> Part {
         let t = loafcanyon::part(words, n);
-        &words[t.start..t.start + t.count]
+        Part { start: t.start, count: t.count }
     }
 
     fn member(&self, w: usize, h: usize, words: &[u32], n: usize, x: usize, y: usize) -> (Answer, bool) {
         let t = loafcanyon::member(w, h, words, n, x, y);
-        (t.answer.into(), t.inside)
+        // the byte itself, since one that is neither 0 nor 1 would be no `bool`
+        let inside = match unsafe { std::ptr::addr_of!(t.inside).cast::<u8>().read() } {
+            0 => false,
+            1 => true,
+            other => panic!("{other} is neither no nor yes"),
+        };
+        (t.answer.into(), inside)
     }
 
     fn paint(&self, w: usize, h: usize, v: u8, levels: &[u8], words: &[u32], room: &mut [u8]) -> Answer {
@@ -73,14 +71,7 @@ impl Calls for Library {
 
     fn read(&self, file: &[u8], words: &mut [u32]) -> Read {
         let t = loafcanyon::read(file, words);
-        Read {
-            answer: t.answer.into(),
-            w: t.width,
-            h: t.height,
-            border: t.border as u8,
-            count: t.count,
-            levels: t.levels,
-        }
+        Read { answer: t.answer.into(), w: t.width, h: t.height, border: t.border, count: t.count, levels: t.levels }
     }
 
     /// The program itself is run: it is proved and built beside the library.

@@ -46,12 +46,8 @@ impl Display for Said {
                 let (x, y) = (f64::from_bits(*x), f64::from_bits(*y));
                 write!(f, " heading {heading} num {num} den {den} x {x:?} y {y:?}")
             }
-            Said::Piece { name, floats, .. } => {
-                let floats: Vec<f64> = floats.iter().map(|&bits| f64::from_bits(bits)).collect();
-                write!(f, " {name} {floats:?}")
-            }
-            Said::Part(Some((start, end))) => write!(f, "part {start} to {end}"),
-            Said::Part(None) => write!(f, "a part outside the list"),
+            Said::Piece { kind, floats, .. } => write!(f, " kind {kind} floats {:?}", floats.map(f64::from_bits)),
+            Said::Part(part) => write!(f, "start {} count {}", part.start, part.count),
             Said::Member(_, inside) => write!(f, " inside {inside}"),
             Said::Read(read) => {
                 let (w, h, border, count) = (read.w, read.h, read.border, read.count);

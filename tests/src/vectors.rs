@@ -2,7 +2,7 @@
 
 use second::{Answer, Read, Second};
 
-use crate::calls::Call;
+use crate::calls::{Call, Part};
 use crate::case::{Case, Outcome, Said};
 use crate::json::Json;
 use crate::lent::{Fill, Lent, Place, Room};
@@ -158,12 +158,18 @@ fn said_of(json: &Json, call: Call) -> Said {
         Call::Piece => {
             let piece = json.get("piece");
             let names = ["refused", "straight", "corner", "branch"];
-            let name = names.into_iter().find(|&name| name == piece.get("case").text()).expect("a case of the piece");
-            Said::Piece { answer, name, floats: piece.get("floats").list().iter().map(bits).collect() }
+            let kind =
+                names.into_iter().position(|name| name == piece.get("case").text()).expect("a case of the piece");
+            let mut floats = [0; 3];
+            let held = piece.get("floats").list();
+            floats.iter_mut().zip(held).for_each(|(place, float)| *place = bits(float));
+            assert!(held.len() == [0, 0, 2, 3][kind]);
+            Said::Piece { answer, kind: kind as u32, floats }
         }
         Call::LinePart => {
             assert!((answer.number == 11) == json.get("part").list().is_empty());
-            Said::Part(Some((number("start") as usize, number("end") as usize)))
+            let (start, end) = (number("start") as usize, number("end") as usize);
+            Said::Part(Part { start, count: end - start })
         }
         Call::Member => Said::Member(answer, number("inside") == 1),
         Call::Read => Said::Read(Box::new(read_of(json, answer))),
@@ -177,7 +183,7 @@ fn read_of(json: &Json, answer: Answer) -> Read {
     let mut levels = [0; 255];
     levels[..first.len()].copy_from_slice(&first);
     let (w, h) = (number("w") as u32, number("h") as u32);
-    let (border, count) = (number("border") as u8, number("level_count") as u32);
+    let (border, count) = (number("border") as u32, number("level_count") as u32);
     Read { answer, w, h, border, count, levels }
 }
 

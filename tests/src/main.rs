@@ -70,7 +70,7 @@ const GROUPS: [Group; 12] = [
     Group { name: "files", random: true, heavy: false, run: files::group },
     Group { name: "frames", random: true, heavy: false, run: frames::group },
     Group { name: "listings", random: true, heavy: false, run: listings::group },
-    Group { name: "stack", random: false, heavy: false, run: stack::group },
+    Group { name: "stack", random: false, heavy: true, run: stack::group },
     Group { name: "large", random: false, heavy: true, run: large::group },
 ];
 

@@ -15,23 +15,45 @@ type Spoil = fn(&mut Case, &mut Rng);
 
 /// A call, a case that is done, and its refusals in their order.
 struct Table {
+    call: Call,
     base: fn(&mut Rng) -> Case,
     order: &'static [(u32, Spoil)],
 }
 
 const TABLES: [Table; 9] = [
-    Table { base: list_base, order: &[(1, sides), (2, samples), (3, levels), (4, border), (5, work), (6, places)] },
     Table {
+        call: Call::List,
+        base: list_base,
+        order: &[(1, sides), (2, samples), (3, levels), (4, border), (5, work), (6, places)],
+    },
+    Table {
+        call: Call::Tree,
         base: tree_base,
         order: &[(1, sides), (2, samples), (3, levels), (4, border), (5, work), (6, places), (7, entries)],
     },
-    Table { base: frame_base, order: &[(1, sides), (2, samples), (9, sample_room)] },
-    Table { base: crossing_base, order: &[(1, sides), (2, samples), (3, level), (8, code), (10, flat)] },
-    Table { base: piece_base, order: &[(1, sides), (2, samples), (3, level), (11, cell), (10, flat)] },
-    Table { base: member_base, order: &[(1, sides), (8, word_code), (11, line_or_sample)] },
-    Table { base: paint_base, order: &[(1, sides), (3, levels), (8, word), (9, sample_room)] },
-    Table { base: write_base, order: &[(1, sides), (3, levels), (16, too_many), (8, word), (15, file_room)] },
-    Table { base: read_base, order: &[(12, length), (13, check), (14, layout), (8, stored_word), (6, places)] },
+    Table { call: Call::Frame, base: frame_base, order: &[(1, sides), (2, samples), (9, sample_room)] },
+    Table {
+        call: Call::Crossing,
+        base: crossing_base,
+        order: &[(1, sides), (2, samples), (3, level), (8, code), (10, flat)],
+    },
+    Table {
+        call: Call::Piece,
+        base: piece_base,
+        order: &[(1, sides), (2, samples), (3, level), (11, cell), (10, flat)],
+    },
+    Table { call: Call::Member, base: member_base, order: &[(1, sides), (8, word_code), (11, line_or_sample)] },
+    Table { call: Call::Paint, base: paint_base, order: &[(1, sides), (3, levels), (8, word), (9, sample_room)] },
+    Table {
+        call: Call::Write,
+        base: write_base,
+        order: &[(1, sides), (3, levels), (16, too_many), (8, word), (15, file_room)],
+    },
+    Table {
+        call: Call::Read,
+        base: read_base,
+        order: &[(12, length), (13, check), (14, layout), (8, stored_word), (6, places)],
+    },
 ];
 
 pub fn group(run: &mut Run) {
@@ -59,6 +81,18 @@ fn all_of(run: &mut Run, rng: &mut Rng, table: &Table, set: u32) {
         let truths: Vec<u32> = chosen().map(|spoil| spoil.0).collect();
         run.direct(&case, wrong.then(|| format!("{said} is given, of {truths:?} in this order")));
     }
+}
+
+/// A case that is done, refused in each way that its call knows, one at a time.
+pub fn each_refused(case: &Case, rng: &mut Rng) -> Vec<Case> {
+    let table = TABLES.iter().find(|table| table.call == case.call);
+    let ways = table.map_or(&[][..], |table| table.order);
+    let spoilt = ways.iter().map(|(_, spoil)| {
+        let mut spoilt = case.clone();
+        spoil(&mut spoilt, rng);
+        spoilt
+    });
+    spoilt.collect()
 }
 
 /// A picture with an inner sample that differs from the border, and a level between.

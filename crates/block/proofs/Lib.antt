@@ -1,3 +1,4 @@
+pub mod Witness
 pub mod Check
 pub mod Put
 pub mod Bytes

@@ -1,3 +1,4 @@
+pub mod Witness
 pub mod Five
 pub mod Rule
 pub mod Quarter

@@ -1,3 +1,4 @@
+pub mod Witness
 pub mod Ends
 pub mod Told
 pub mod Between

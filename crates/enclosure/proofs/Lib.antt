@@ -1,3 +1,4 @@
+pub mod Witness
 pub mod Lists
 pub mod Corner
 pub mod Inside
@@ -29,4 +30,4 @@ pub mod Running
 pub mod Notes
 pub mod Walk
 pub mod Value
-pub mod Witness
+pub mod Applied

@@ -1,3 +1,4 @@
+pub mod Witness
 pub mod Seen
 pub mod Edge
 pub mod Rounds

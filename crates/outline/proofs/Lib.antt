@@ -1,3 +1,4 @@
+pub mod Witness
 pub mod Codes
 pub mod Entered
 pub mod Follow
@@ -18,4 +19,4 @@ pub mod Listed
 pub mod Room
 pub mod Counting
 pub mod Stepped
-pub mod Witness
+pub mod Applied

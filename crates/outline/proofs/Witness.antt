@@ -1,51 +1,38 @@
--- The laws of this crate say something: a picture that has a constant border and a line, with the laws applied to it. Assumes nothing.
--- Definitions: `dot` 3 by 3, all 0 but the centre 1.
--- Main laws: `dot-border` it has a constant border; `dot-centre` so an odd number of lines counts odd for its centre; `dot-code` so code 6 stands once in its lines; `dot-words` so its list has four words;
---   `dot-painted` so painting them back gives 1 at the centre.
+-- The lines and words of small pictures, worked out: what an edit of the list's definitions makes false shows here. Assumes nothing.
+-- Definitions: `woven` 7 by 7 with level 3 crossed by one line that has more crossings than there are samples.
+-- Main laws: `dot-lines`, `hole-lines` the paper's (a) and (b), the second with its lead heading N; `pair-words` the words of the paper's 4 by 4 picture at levels 0 and 1; `woven-line` all 52 crossings of that line.
 use mathlib.Core.Path.{_≡_, refl}
-use mathlib.Core.Bool.{true}
 use mathlib.Core.List.{List, [], _∷_}
 use Prim.Native.Nat.{ℕ}
-use native.Mathlib.Omega.{arith}
-use lib.Dec.{ltb}
 use lib.ListN.{length}
-use Rattle.tally.specs.Tally.{every, sum, count, tally, total, flat, odd, differ}
+use Rattle.tally.specs.Tally.{pick}
+use Rattle.orbit.specs.Orbit.{orbit, low, leads}
 use Rattle.matte.specs.Layout.{eight}
-use Rattle.matte.specs.Picture.{Picture, picture, at, borderFits, ascend}
-use Rattle.edgel.specs.Edgel.{edgel, crossed, cut}
-use Rattle.edgel.specs.Beside.{westOf, oddLines}
-use Rattle.outline.specs.Line.{lines}
-use Rattle.outline.specs.List.{listed}
-use Rattle.outline.proofs.Border.{Border, border-fits}
-use Rattle.outline.proofs.Above.{stands-once, above}
-use Rattle.outline.proofs.Words.{ofLevel}
-use Rattle.outline.proofs.Listed.{fits-eight, listed-length}
-use Rattle.outline.proofs.Stepped.{paint-back}
+use Rattle.matte.specs.Picture.{Picture, picture}
+use Rattle.edgel.specs.Edgel.{edgel, crossed, cut, headingAt}
+use Rattle.cell.specs.Turn.{saddle, leave, next}
+use Rattle.cell.proofs.Witness.{dot, hole, pair}
+use Rattle.outline.specs.Line.{line, isLead, lines}
+use Rattle.outline.specs.List.{encode, levelWords, listed}
 
-abbrev pub dot : Picture
-dot = picture 3 3 (0 ∷ 0 ∷ 0 ∷ 0 ∷ 1 ∷ 0 ∷ 0 ∷ 0 ∷ 0 ∷ [])
+abbrev pub woven : Picture
+woven =
+    picture 7 7
+    (3 ∷ 3 ∷ 3 ∷ 3 ∷ 3 ∷ 3 ∷ 3 ∷ 3 ∷ 6 ∷ 0 ∷ 4 ∷ 3 ∷ 6 ∷ 3 ∷ 3 ∷ 2 ∷ 6 ∷ 2 ∷ 9 ∷ 3 ∷ 3 ∷ 3 ∷ 9 ∷ 2 ∷ 4 ∷ 2 ∷ 4 ∷ 3 ∷ 3 ∷ 3 ∷ 9 ∷ 0 ∷ 9 ∷ 3 ∷ 3 ∷ 3 ∷ 9 ∷ 2 ∷ 9 ∷ 0 ∷ 9 ∷ 3 ∷ 3 ∷ 3 ∷ 3 ∷ 3 ∷ 3 ∷ 3 ∷ 3 ∷ [])
 
-abbrev pub ground : List ℕ
-ground = 0 ∷ []
+pub dot-lines : lines dot 0 ≡ (6 ∷ 9 ∷ 8 ∷ 3 ∷ []) ∷ []
+unfolding pick lines line isLead leads low orbit cut edgel crossed headingAt next leave saddle
+dot-lines = refl
 
-dot-fits : borderFits dot ≡ true
-unfolding borderFits every
-dot-fits = refl
+pub hole-lines : lines hole 0 ≡ (6 ∷ 3 ∷ 8 ∷ 9 ∷ []) ∷ []
+unfolding pick lines line isLead leads low orbit cut edgel crossed headingAt next leave saddle
+hole-lines = refl
 
-pub dot-border : Border dot
-dot-border = border-fits dot (omega arith) dot-fits
+-- a level takes 2^23 = 8388608, a flag 2^31 = 2147483648
+pub pair-words : listed eight pair (0 ∷ 1 ∷ []) ≡ 2147483656 ∷ 11 ∷ 18 ∷ 21 ∷ 20 ∷ 13 ∷ 10 ∷ 3 ∷ 2155872264 ∷ 8388619 ∷ 8388618 ∷ 8388611 ∷ 2155872274 ∷ 8388629 ∷ 8388628 ∷ 8388621 ∷ []
+unfolding pick listed levelWords encode lines line isLead leads low orbit cut edgel crossed headingAt next leave saddle
+pair-words = refl
 
-pub dot-centre : odd (oddLines 3 (lines dot 0) 1 1) ≡ true
-dot-centre = above dot dot-border 0 1 1 (omega arith) (omega arith)
-
-pub dot-code : count 6 (flat (lines dot 0)) ≡ 1
-unfolding cut edgel crossed
-dot-code = stands-once dot dot-border 0 6
-
-pub dot-words : length (listed eight dot ground) ≡ 4
-unfolding total sum cut edgel crossed
-dot-words = listed-length eight dot dot-border ground
-
-pub dot-painted : tally (λ k. differ (ltb k (at dot 0)) (odd (tally (ofLevel eight k (westOf 3 1 1)) (listed eight dot ground)))) ground ≡ 1
-unfolding tally ascend
-dot-painted = paint-back eight dot (fits-eight dot refl refl) dot-border ground refl 1 1 (omega arith) (omega arith)
+pub woven-line : length (line woven 3 14) ≡ 52
+unfolding line orbit headingAt next leave saddle
+woven-line = refl

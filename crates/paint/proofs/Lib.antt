@@ -1,3 +1,4 @@
+pub mod Witness
 pub mod Lines
 pub mod Parts
 pub mod West

@@ -1,3 +1,4 @@
+pub mod Witness
 pub mod SmallPictures
 pub mod OneAnswer
 pub mod EachFloat

@@ -1,11 +1,21 @@
--- All 255 levels at a small picture, worked out: what an edit of the list of levels makes false shows here. Assumes nothing.
--- Main laws: `all-steps` stepped by all levels, a picture with the samples 0, 1, 254 and 255 is itself.
+-- Small cases of the promises, worked out: what an edit of their definitions makes false shows here. Assumes nothing.
+-- Main laws: `all-steps` stepped by all levels, a picture with the samples 0, 1, 254 and 255 is itself; `rows-a-b` the first two rows of the paper's table are the lines of the dot and the hole.
 use mathlib.Core.Path.{_≡_, refl}
 use mathlib.Core.List.{[], _∷_}
-use Rattle.tally.specs.Tally.{build, tally}
+use lib.ListN.{take}
+use Rattle.tally.specs.Tally.{build, tally, pick}
+use Rattle.orbit.specs.Orbit.{orbit, low, leads}
 use Rattle.matte.specs.Picture.{picture}
+use Rattle.edgel.specs.Edgel.{edgel, crossed, cut, headingAt}
+use Rattle.cell.specs.Turn.{saddle, leave, next}
+use Rattle.outline.specs.Line.{line, isLead, lines}
 use Rattle.promises.specs.Stepped.{steppedPicture, allLevels}
+use Rattle.promises.specs.Small.{dot, hole, expected}
 
 pub all-steps : steppedPicture allLevels (picture 2 2 (0 ∷ 1 ∷ 254 ∷ 255 ∷ [])) ≡ 0 ∷ 1 ∷ 254 ∷ 255 ∷ []
 unfolding build tally steppedPicture
 all-steps = refl
+
+pub rows-a-b : lines dot 0 ∷ lines hole 0 ∷ [] ≡ take 2 expected
+unfolding pick lines line isLead leads low orbit cut edgel crossed headingAt next leave saddle
+rows-a-b = refl

@@ -11,15 +11,15 @@ use lib.Ieee.{Float}
 use lib.ListN.{length}
 use borrow.Author.Tests.{eqb-true, eq-eqb, ne-eqb}
 use Rattle.tally.specs.Tally.{apart, differ}
-use Rattle.matte.specs.declared.Verdict.{Verdict}
+use Rattle.refuse.specs.declared.Verdict.{Verdict}
 use Rattle.matte.specs.Layout.{eight}
 use Rattle.matte.specs.Picture.{Picture, at, high, sideFits, samplesFit, levelsFit}
-use Rattle.matte.specs.Refusal.{Row, row, verdict, answer, samplesRow, levelsRow}
-use Rattle.matte.proofs.Rows.{fit, unfit}
+use Rattle.refuse.specs.Refusal.{Row, row, verdict, answer, samplesRow, levelsRow}
+use Rattle.refuse.proofs.Rows.{fit, unfit}
 use Rattle.edgel.specs.Heading.{number}
 use Rattle.edgel.specs.Edgel.{horizontal, first, second, column, edgel, crossed, headingOf, headingAt}
 use Rattle.edgel.specs.Edgel as Edgel
-use Rattle.edgel.specs.Word.{codeRow}
+use Rattle.words.specs.Fit.{codeRow}
 use Rattle.refuse.specs.Shape.{Sides}
 use Rattle.refuse.proofs.Sides.{sides-in}
 use Rattle.crossing.specs.declared.Crossing.{Crossing}

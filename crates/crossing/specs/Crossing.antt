@@ -6,14 +6,14 @@ use Prim.Native.Nat.{ℕ, _+_, _*_, _/_, _%_}
 use lib.IntN.{pos}
 use lib.Ieee.{Float, binary64, add, div, ofInt}
 use Rattle.tally.specs.Tally.{apart}
-use Rattle.matte.specs.declared.Verdict.{Verdict}
+use Rattle.refuse.specs.declared.Verdict.{Verdict}
 use Rattle.matte.specs.Layout.{Layout}
 use Rattle.matte.specs.Picture.{Picture, at, high}
-use Rattle.matte.specs.Refusal.{Row, verdict, row, answer, afterwards, sidesRow, samplesRow, levelsRow}
+use Rattle.refuse.specs.Refusal.{Row, verdict, row, answer, afterwards, sidesRow, samplesRow, levelsRow}
 use Rattle.edgel.specs.Heading.{number}
 use Rattle.edgel.specs.Edgel.{horizontal, first, second, column, crossed, headingAt}
 use Rattle.edgel.specs.Edgel as Edgel
-use Rattle.edgel.specs.Word.{codeRow}
+use Rattle.words.specs.Fit.{codeRow}
 use Rattle.crossing.specs.declared.Crossing.{Crossing}
 
 -- a whole number as a float

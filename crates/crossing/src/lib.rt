@@ -1,7 +1,7 @@
 // The crossing call: where exactly a level crosses an edgel.
 use edgel::Heading;
-use matte::Answer;
-use matte::Verdict;
+use refuse::Answer;
+use refuse::Verdict;
 use refuse::area;
 use refuse::levels_fit;
 use refuse::sides_fit;

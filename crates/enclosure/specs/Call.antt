@@ -6,11 +6,11 @@ use Prim.Native.Nat.{ℕ, _+_, _*_, _/_}
 use lib.Dec.{ltb}
 use lib.ListN.{length, drop, replicate}
 use Rattle.tally.specs.Tally.{one, sum, total, tally}
-use Rattle.matte.specs.declared.Answer.{Answer}
-use Rattle.matte.specs.declared.Verdict.{Verdict}
+use Rattle.refuse.specs.declared.Answer.{Answer}
+use Rattle.refuse.specs.declared.Verdict.{Verdict}
 use Rattle.matte.specs.Layout.{Layout}
 use Rattle.matte.specs.Picture.{Picture, size}
-use Rattle.matte.specs.Refusal.{Row, verdict, rowAt, answer, afterwards, sidesRow, samplesRow, levelsRow, borderRow, workRow, wordsRow}
+use Rattle.refuse.specs.Refusal.{Row, verdict, rowAt, answer, afterwards, sidesRow, samplesRow, levelsRow, borderRow, workRow, wordsRow}
 use Rattle.edgel.specs.Word.{flagged}
 use Rattle.outline.specs.Line.{cutAt}
 use Rattle.outline.specs.List.{listed}

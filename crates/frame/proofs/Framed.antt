@@ -14,7 +14,7 @@ use Rattle.tally.proofs.Every.{every-from}
 use Rattle.tally.proofs.Build.{build-length, build-at}
 use Rattle.matte.specs.Layout.{Layout}
 use Rattle.matte.specs.Picture.{Picture, picture, size, at, onBorder, borderFits}
-use Rattle.matte.specs.Refusal.{borderRow}
+use Rattle.refuse.specs.Refusal.{borderRow}
 use Rattle.refuse.specs.Shape.{Sides}
 use Rattle.frame.specs.Frame.{borderSamples, median, framed}
 use Rattle.frame.proofs.Edge.{on-top}

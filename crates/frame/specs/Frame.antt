@@ -6,11 +6,11 @@ use Prim.Native.Nat.{ℕ, suc, _+_, _*_}
 use lib.Dec.{leb}
 use lib.ListN.{length, drop}
 use Rattle.tally.specs.Tally.{tally, build, firstFrom, flat, pick}
-use Rattle.matte.specs.declared.Answer.{Answer}
-use Rattle.matte.specs.declared.Verdict.{Verdict}
+use Rattle.refuse.specs.declared.Answer.{Answer}
+use Rattle.refuse.specs.declared.Verdict.{Verdict}
 use Rattle.matte.specs.Layout.{Layout}
 use Rattle.matte.specs.Picture.{Picture, size, at, onBorder}
-use Rattle.matte.specs.Refusal.{Row, verdict, answer, afterwards, sidesRow, samplesRow, roomRow}
+use Rattle.refuse.specs.Refusal.{Row, verdict, answer, afterwards, sidesRow, samplesRow, roomRow}
 
 -- the samples on the border, each once, row by row (01, Framing)
 unfoldable pub borderSamples : Picture → List ℕ

@@ -1,6 +1,6 @@
 // Framing: the picture with its border set to the lower median of the border samples.
-use matte::Answer;
-use matte::Verdict;
+use refuse::Answer;
+use refuse::Verdict;
 use refuse::area;
 use refuse::sides_fit;
 ghost use mathlib.Core.Path.{_≡_};
@@ -13,7 +13,7 @@ ghost use Rattle.tally.specs.Tally.{sum};
 ghost use Rattle.fill.specs.Filled.{Filled};
 ghost use Rattle.matte.specs.Layout.{eight};
 ghost use Rattle.matte.specs.Picture.{picture, onBorder};
-ghost use Rattle.matte.specs.Refusal.{row, verdict, sidesRow, samplesRow};
+ghost use Rattle.refuse.specs.Refusal.{row, verdict, sidesRow, samplesRow};
 ghost use Rattle.refuse.specs.Shape.{Sides};
 ghost use Rattle.frame.specs.Frame.{borderSamples, median, frameAnswer, frameRoom};
 ghost use Rattle.frame.specs.Counts.{seen, histogram, halfway};

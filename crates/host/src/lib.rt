@@ -2,7 +2,7 @@
 use crossing::Crossing;
 use crossing::crossing_at;
 use frame::frame_picture;
-use matte::Answer;
+use refuse::Answer;
 use olr::Stored;
 use olr::read_file;
 use olr::write_file;

@@ -13,11 +13,11 @@ use lib.Seq.{take-at, getD-drop}
 use Rattle.tally.specs.Tally.{tally}
 use Rattle.tally.proofs.Test.{by-test}
 use Rattle.tally.proofs.Build.{build-length}
-use Rattle.matte.specs.declared.Answer.{Answer}
-use Rattle.matte.specs.declared.Verdict.{Verdict}
+use Rattle.refuse.specs.declared.Answer.{Answer}
+use Rattle.refuse.specs.declared.Verdict.{Verdict}
 use Rattle.matte.specs.Layout.{eight}
 use Rattle.matte.specs.Picture.{Picture, picture, at}
-use Rattle.matte.proofs.Rows.{done-answer, refused-answer, done-after}
+use Rattle.refuse.proofs.Rows.{done-answer, refused-answer, done-after}
 use Rattle.edgel.specs.Word.{flagged}
 use Rattle.refuse.specs.Shape.{Sides}
 use Rattle.trace.proofs.Refusals.{Sound}

@@ -7,7 +7,7 @@ use mathlib.Core.List.{List}
 use Prim.Native.Nat.{ℕ, _≤_}
 use lib.Dec.{eqb}
 use lib.ListN.{length, take, drop, replicate}
-use Rattle.matte.specs.declared.Verdict.{Verdict}
+use Rattle.refuse.specs.declared.Verdict.{Verdict}
 use Rattle.matte.specs.Layout.{eight}
 use Rattle.matte.specs.Picture.{Picture, picture}
 use Rattle.outline.specs.List.{listed}

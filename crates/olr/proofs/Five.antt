@@ -7,9 +7,9 @@ use mathlib.Core.List.{List, [], _∷_}
 use Prim.Native.Nat.{_<_}
 use native.Mathlib.Omega.{arith}
 use Rattle.tally.proofs.Test.{by-test}
-use Rattle.matte.specs.declared.Verdict.{Verdict}
-use Rattle.matte.specs.Refusal.{Row, verdict}
-use Rattle.matte.proofs.Rows.{given, passed}
+use Rattle.refuse.specs.declared.Verdict.{Verdict}
+use Rattle.refuse.specs.Refusal.{Row, verdict}
+use Rattle.refuse.proofs.Rows.{given, passed}
 
 -- a verdict of 0 passes the first row
 next : (r : Row) (rs : List Row) → 0 < r .number → verdict (r ∷ rs) .number ≡ 0 → (r .given ≡ false) × (verdict rs .number ≡ 0)

@@ -12,12 +12,13 @@ use lib.ListN.{length, drop, replicate}
 use borrow.Author.Tests.{lt-ltb, le-ltb, ltb-false, eq-eqb, ne-eqb, eqb-true, eqb-false, not-false}
 use Rattle.tally.specs.Tally.{tally, firstAt, firstFrom}
 use Rattle.tally.proofs.Test.{no}
-use Rattle.matte.specs.declared.Answer.{Answer}
-use Rattle.matte.specs.declared.Verdict.{Verdict}
+use Rattle.refuse.specs.declared.Answer.{Answer}
+use Rattle.refuse.specs.declared.Verdict.{Verdict}
 use Rattle.matte.specs.Layout.{eight}
-use Rattle.matte.specs.Refusal.{Row, row, rowAt, wordsRow, afterwards}
-use Rattle.matte.proofs.Rows.{done-answer, refused-answer, done-after, refused-after}
-use Rattle.edgel.specs.Word.{flagged, badWord, wordsFitRow}
+use Rattle.refuse.specs.Refusal.{Row, row, rowAt, wordsRow, afterwards}
+use Rattle.refuse.proofs.Rows.{done-answer, refused-answer, done-after, refused-after}
+use Rattle.edgel.specs.Word.{flagged}
+use Rattle.words.specs.Fit.{badWord, wordsFitRow}
 use Rattle.olr.specs.Read.{blocks, checkFits, fileWidth, fileHeight, fileBorder, fileCount, fileWordCount, fileLevels, fileWords, laidOut, readVerdict, readAnswer, readWords}
 use Rattle.olr.specs.Held.{stored}
 use Rattle.olr.proofs.Five.{first-0, first-1, first-2, first-3, first-4, first-5, passed-all}

@@ -17,8 +17,9 @@ use Rattle.tally.proofs.First.{from-is}
 use Rattle.tally.proofs.Build.{is-build}
 use Rattle.matte.specs.Layout.{eight}
 use Rattle.matte.specs.Picture.{sideFits, levelsFit}
-use Rattle.matte.proofs.Rows.{done-after}
-use Rattle.edgel.specs.Word.{flagged, badWord}
+use Rattle.refuse.proofs.Rows.{done-after}
+use Rattle.edgel.specs.Word.{flagged}
+use Rattle.words.specs.Fit.{badWord}
 use Rattle.refuse.proofs.Sides.{sides-in}
 use Rattle.block.specs.Block.{num4}
 use Rattle.block.proofs.Bytes.{Below}

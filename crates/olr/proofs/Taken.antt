@@ -14,7 +14,7 @@ use Rattle.tally.specs.Tally.{one, tally}
 use Rattle.tally.proofs.Build.{build-length, build-at}
 use Rattle.tally.proofs.Count.{tally-append}
 use Rattle.matte.specs.Layout.{eight}
-use Rattle.edgel.specs.Word.{badWord}
+use Rattle.words.specs.Fit.{badWord}
 use Rattle.words.specs.Listed.{levelTable, wordFits}
 use Rattle.words.proofs.Table.{word-told}
 use Rattle.block.specs.Block.{num4}

@@ -12,12 +12,12 @@ use lib.ListN.{length, take, drop}
 use lib.Seq.{take-at, drop-append-add, drop-drop}
 use borrow.Author.Tests.{lt-ltb, le-ltb, ltb-false, not-false}
 use Rattle.tally.specs.Tally.{firstAt}
-use Rattle.matte.specs.declared.Verdict.{Verdict}
+use Rattle.refuse.specs.declared.Verdict.{Verdict}
 use Rattle.matte.specs.Layout.{eight}
 use Rattle.matte.specs.Picture.{sideFits, levelsFit}
-use Rattle.matte.specs.Refusal.{Row, row, rowAt, sidesRow, levelsRow}
-use Rattle.matte.proofs.Rows.{done-answer, refused-answer, done-after, refused-after}
-use Rattle.edgel.specs.Word.{badWord, wordsFitRow}
+use Rattle.refuse.specs.Refusal.{Row, row, rowAt, sidesRow, levelsRow}
+use Rattle.refuse.proofs.Rows.{done-answer, refused-answer, done-after, refused-after}
+use Rattle.words.specs.Fit.{badWord, wordsFitRow}
 use Rattle.block.specs.Block.{pad, block}
 use Rattle.olr.specs.File.{limit, header, blocksFor, wordBlocks, file, fileLength, writeVerdict, writeAnswer, writeRoom}
 use Rattle.olr.proofs.Ascend.{levels-length}

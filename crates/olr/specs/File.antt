@@ -5,11 +5,11 @@ use mathlib.Core.List.{List, [], _∷_, _++_}
 use Prim.Native.Nat.{ℕ, zero, suc, _+_, _*_, _/_}
 use lib.Dec.{ltb}
 use lib.ListN.{length, take, drop}
-use Rattle.matte.specs.declared.Answer.{Answer}
-use Rattle.matte.specs.declared.Verdict.{Verdict}
+use Rattle.refuse.specs.declared.Answer.{Answer}
+use Rattle.refuse.specs.declared.Verdict.{Verdict}
 use Rattle.matte.specs.Layout.{eight}
-use Rattle.matte.specs.Refusal.{Row, verdict, row, rowAt, answer, afterwards, sidesRow, levelsRow}
-use Rattle.edgel.specs.Word.{wordsFitRow}
+use Rattle.refuse.specs.Refusal.{Row, verdict, row, rowAt, answer, afterwards, sidesRow, levelsRow}
+use Rattle.words.specs.Fit.{wordsFitRow}
 use Rattle.block.specs.Block.{le2, le4, pad, block}
 
 -- N is at most 16,777,215 (01, Outline file)

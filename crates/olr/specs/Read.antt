@@ -7,11 +7,12 @@ use Prim.Native.Nat.{ℕ, _+_, _-_, _*_, _/_, _%_}
 use lib.Dec.{eqb, ltb, leb}
 use lib.ListN.{length, take, drop, getD, replicate}
 use Rattle.tally.specs.Tally.{tally, build, firstFrom}
-use Rattle.matte.specs.declared.Verdict.{Verdict}
+use Rattle.refuse.specs.declared.Verdict.{Verdict}
 use Rattle.matte.specs.Layout.{eight}
 use Rattle.matte.specs.Picture.{sideFits, levelsFit}
-use Rattle.matte.specs.Refusal.{Row, verdict, row, rowAt, answer, afterwards, wordsRow}
-use Rattle.edgel.specs.Word.{flagged, wordsFitRow}
+use Rattle.refuse.specs.Refusal.{Row, verdict, row, rowAt, answer, afterwards, wordsRow}
+use Rattle.edgel.specs.Word.{flagged}
+use Rattle.words.specs.Fit.{wordsFitRow}
 use Rattle.olr.specs.declared.Stored.{Stored}
 use Rattle.block.specs.Block.{num2, num4, check}
 use Rattle.olr.specs.File.{limit, letters, blocksFor}

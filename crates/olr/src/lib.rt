@@ -6,7 +6,7 @@ use block::num4_at;
 use get::read_verdict;
 use get::stored_of;
 use get::take_words;
-use matte::Answer;
+use refuse::Answer;
 use put::put_head;
 use put::put_words;
 use put::write_verdict;

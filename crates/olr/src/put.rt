@@ -3,7 +3,7 @@ use block::close;
 use block::close_two;
 use block::put2;
 use block::put4;
-use matte::Verdict;
+use refuse::Verdict;
 use refuse::levels_fit;
 use refuse::sides_fit;
 use words::first_bad_word;

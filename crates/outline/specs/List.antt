@@ -6,11 +6,11 @@ use mathlib.Core.List.{List, [], _∷_, _++_}
 use Prim.Native.Nat.{ℕ, _+_}
 use lib.ListN.{length, drop, replicate}
 use Rattle.tally.specs.Tally.{tally}
-use Rattle.matte.specs.declared.Answer.{Answer}
-use Rattle.matte.specs.declared.Verdict.{Verdict}
+use Rattle.refuse.specs.declared.Answer.{Answer}
+use Rattle.refuse.specs.declared.Verdict.{Verdict}
 use Rattle.matte.specs.Layout.{Layout}
 use Rattle.matte.specs.Picture.{Picture, size}
-use Rattle.matte.specs.Refusal.{Row, verdict, answer, afterwards, sidesRow, samplesRow, levelsRow, borderRow, workRow, wordsRow}
+use Rattle.refuse.specs.Refusal.{Row, verdict, answer, afterwards, sidesRow, samplesRow, levelsRow, borderRow, workRow, wordsRow}
 use Rattle.edgel.specs.Word.{word, flagged}
 use Rattle.outline.specs.Line.{lines}
 

@@ -6,12 +6,12 @@ use mathlib.Core.List.{List, [], _∷_}
 use Prim.Native.Nat.{ℕ}
 use lib.Dec.{ltb}
 use lib.ListN.{length}
-use Rattle.matte.specs.declared.Answer.{Answer}
-use Rattle.matte.specs.declared.Verdict.{Verdict}
+use Rattle.refuse.specs.declared.Answer.{Answer}
+use Rattle.refuse.specs.declared.Verdict.{Verdict}
 use Rattle.matte.specs.Layout.{eight}
-use Rattle.matte.specs.Refusal.{row, verdict, answer, afterwards, sidesRow}
-use Rattle.matte.proofs.Rows.{done-answer, refused-answer, done-after, refused-after}
-use Rattle.edgel.specs.Word.{codesRow}
+use Rattle.refuse.specs.Refusal.{row, verdict, answer, afterwards, sidesRow}
+use Rattle.refuse.proofs.Rows.{done-answer, refused-answer, done-after, refused-after}
+use Rattle.words.specs.Fit.{codesRow}
 use Rattle.paint.specs.declared.Membership.{Membership}
 use Rattle.paint.specs.Part.{part}
 use Rattle.paint.specs.Member.{inside, memberVerdict, memberAnswer}

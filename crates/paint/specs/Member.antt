@@ -6,10 +6,11 @@ use Prim.Native.Nat.{ℕ}
 use lib.Dec.{ltb}
 use lib.ListN.{length}
 use Rattle.tally.specs.Tally.{odd, tally}
-use Rattle.matte.specs.declared.Verdict.{Verdict}
+use Rattle.refuse.specs.declared.Verdict.{Verdict}
 use Rattle.matte.specs.Layout.{Layout}
-use Rattle.matte.specs.Refusal.{Row, verdict, row, answer, afterwards, sidesRow}
-use Rattle.edgel.specs.Word.{codeOf, codesRow}
+use Rattle.refuse.specs.Refusal.{Row, verdict, row, answer, afterwards, sidesRow}
+use Rattle.edgel.specs.Word.{codeOf}
+use Rattle.words.specs.Fit.{codesRow}
 use Rattle.edgel.specs.Beside.{westOf}
 use Rattle.paint.specs.declared.Membership.{Membership}
 use Rattle.paint.specs.Part.{part}

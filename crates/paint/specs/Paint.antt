@@ -6,11 +6,12 @@ use Prim.Native.Nat.{ℕ, _*_, _/_, _%_}
 use lib.Dec.{eqb, ltb}
 use lib.ListN.{drop}
 use Rattle.tally.specs.Tally.{odd, differ, tally, build}
-use Rattle.matte.specs.declared.Answer.{Answer}
-use Rattle.matte.specs.declared.Verdict.{Verdict}
+use Rattle.refuse.specs.declared.Answer.{Answer}
+use Rattle.refuse.specs.declared.Verdict.{Verdict}
 use Rattle.matte.specs.Layout.{Layout}
-use Rattle.matte.specs.Refusal.{Row, verdict, answer, afterwards, sidesRow, levelsRow, roomRow}
-use Rattle.edgel.specs.Word.{codeOf, levelOf, wordsFitRow}
+use Rattle.refuse.specs.Refusal.{Row, verdict, answer, afterwards, sidesRow, levelsRow, roomRow}
+use Rattle.edgel.specs.Word.{codeOf, levelOf}
+use Rattle.words.specs.Fit.{wordsFitRow}
 use Rattle.edgel.specs.Beside.{westOf}
 
 -- the number of listed levels that a sample is high at (01, Framing, membership, painting)

@@ -10,12 +10,12 @@ use lib.Dec.{eqb}
 use lib.IntN.{ℤ, pos, negsuc, _+ℤ_, _-ℤ_, _*ℤ_, +ℤ-idl, +ℤ-invr, -ℤ-+ℤ-cancel}
 use borrow.Author.Tests.{eqb-true, eqb-false}
 use Rattle.tally.proofs.Test.{by-test, no}
-use Rattle.matte.specs.declared.Answer.{Answer}
-use Rattle.matte.specs.declared.Verdict.{Verdict}
+use Rattle.refuse.specs.declared.Answer.{Answer}
+use Rattle.refuse.specs.declared.Verdict.{Verdict}
 use Rattle.matte.specs.Layout.{eight}
 use Rattle.matte.specs.Picture.{Picture, at}
-use Rattle.matte.specs.Refusal.{answer}
-use Rattle.matte.proofs.Rows.{done-answer, refused-answer, done-after, refused-after}
+use Rattle.refuse.specs.Refusal.{answer}
+use Rattle.refuse.proofs.Rows.{done-answer, refused-answer, done-after, refused-after}
 use Rattle.piece.specs.declared.Piece.the-variants.{Refused, Straight, Corner, Branch}
 use Rattle.piece.specs.Piece.{isZero, d, s, inside, centre, excess, delta, Case, caseOf, pieceOf, pieceVerdict, pieceAnswer, cellAt}
 

@@ -13,11 +13,11 @@ use lib.ListN.{length}
 use borrow.Author.Tests.{ltb-true, eqb-true, eq-eqb, ne-eqb}
 use Rattle.tally.specs.Tally.{differ}
 use Rattle.tally.proofs.Test.{and-1, and-2}
-use Rattle.matte.specs.declared.Verdict.{Verdict}
+use Rattle.refuse.specs.declared.Verdict.{Verdict}
 use Rattle.matte.specs.Layout.{eight}
 use Rattle.matte.specs.Picture.{Picture, at, high, sideFits, samplesFit, levelsFit}
-use Rattle.matte.specs.Refusal.{Row, row, verdict, samplesRow, levelsRow}
-use Rattle.matte.proofs.Rows.{fit, unfit}
+use Rattle.refuse.specs.Refusal.{Row, row, verdict, samplesRow, levelsRow}
+use Rattle.refuse.proofs.Rows.{fit, unfit}
 use Rattle.edgel.specs.Edgel.{crossed}
 use Rattle.refuse.specs.Shape.{Sides}
 use Rattle.refuse.proofs.Sides.{sides-in}

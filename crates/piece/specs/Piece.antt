@@ -8,11 +8,11 @@ use Prim.Native.Nat.{ℕ, suc, _+_, _*_}
 use lib.Dec.{eqb, ltb, leb}
 use lib.IntN.{ℤ, pos, negsuc, negℤ, _+ℤ_, _-ℤ_, _*ℤ_}
 use lib.Ieee.{Float, binary64, div, ofInt}
-use Rattle.matte.specs.declared.Answer.{Answer}
-use Rattle.matte.specs.declared.Verdict.{Verdict}
+use Rattle.refuse.specs.declared.Answer.{Answer}
+use Rattle.refuse.specs.declared.Verdict.{Verdict}
 use Rattle.matte.specs.Layout.{Layout}
 use Rattle.matte.specs.Picture.{Picture, at, high}
-use Rattle.matte.specs.Refusal.{Row, verdict, row, answer, afterwards, sidesRow, samplesRow, levelsRow}
+use Rattle.refuse.specs.Refusal.{Row, verdict, row, answer, afterwards, sidesRow, samplesRow, levelsRow}
 use Rattle.edgel.specs.declared.Heading.the-variants.{South, East, North, West}
 use Rattle.edgel.specs.Edgel.{crossed}
 use Rattle.cell.specs.Turn.{out}

@@ -1,6 +1,6 @@
 // The piece call: what the level line is inside one cell.
-use matte::Answer;
-use matte::Verdict;
+use refuse::Answer;
+use refuse::Verdict;
 use refuse::area;
 use refuse::levels_fit;
 use refuse::sides_fit;

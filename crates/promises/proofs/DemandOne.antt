@@ -9,7 +9,7 @@ use mathlib.Core.Logic.{_≢_}
 use Prim.Native.Nat.{ℕ}
 use Rattle.matte.specs.Layout.{eight}
 use Rattle.matte.specs.Picture.{Picture}
-use Rattle.matte.proofs.Rows.{refused-after}
+use Rattle.refuse.proofs.Rows.{refused-after}
 use Rattle.outline.specs.List.{listVerdict, listWork, listWords}
 use Rattle.enclosure.specs.Call.{treeVerdict, treeWork, treeWords, treeEntries}
 use Rattle.frame.specs.Frame.{frameVerdict, frameRoom}

@@ -15,14 +15,15 @@ use Rattle.tally.specs.Tally.{odd, differ, count, stands, tally, firstAt, flat}
 use Rattle.tally.proofs.Test.{by-test, no, both, and-1}
 use Rattle.tally.proofs.Count.{count-self, count-later, count-at, tally-eq}
 use Rattle.tally.proofs.First.{first-passes}
-use Rattle.matte.specs.declared.Answer.{Answer}
-use Rattle.matte.specs.declared.Verdict.{Verdict}
+use Rattle.refuse.specs.declared.Answer.{Answer}
+use Rattle.refuse.specs.declared.Verdict.{Verdict}
 use Rattle.matte.specs.Layout.{Layout, eight}
 use Rattle.matte.specs.Picture.{Picture, sideFits}
-use Rattle.matte.specs.Refusal.{Row, row, answer, afterwards}
-use Rattle.matte.proofs.Rows.{fit, passed}
+use Rattle.refuse.specs.Refusal.{Row, row, answer, afterwards}
+use Rattle.refuse.proofs.Rows.{fit, passed}
 use Rattle.edgel.specs.Edgel.{across, down, edgel, cut}
-use Rattle.edgel.specs.Word.{word, codeOf, levelOf, flagged, badCode, codesRow}
+use Rattle.edgel.specs.Word.{word, codeOf, levelOf, flagged}
+use Rattle.words.specs.Fit.{badCode, codesRow}
 use Rattle.edgel.specs.Beside.{westOf, northOf, oddWest}
 use Rattle.outline.specs.Line.{line, lines}
 use Rattle.outline.specs.List.{encode, listed}

@@ -15,13 +15,14 @@ use Rattle.tally.specs.Tally.{one, count, tally, firstAt, flat}
 use Rattle.tally.proofs.Test.{by-test, and-1}
 use Rattle.tally.proofs.Count.{count-at}
 use Rattle.tally.proofs.First.{first-is}
-use Rattle.matte.specs.declared.Verdict.{Verdict}
+use Rattle.refuse.specs.declared.Verdict.{Verdict}
 use Rattle.matte.specs.Layout.{eight}
 use Rattle.matte.specs.Picture.{Picture, size, at, high, sideFits, levelsFit}
-use Rattle.matte.specs.Refusal.{levelsRow, roomRow}
-use Rattle.matte.proofs.Rows.{fit, passed, done-after}
+use Rattle.refuse.specs.Refusal.{levelsRow, roomRow}
+use Rattle.refuse.proofs.Rows.{fit, passed, done-after}
 use Rattle.edgel.specs.Edgel.{edgel, crossed, cut}
-use Rattle.edgel.specs.Word.{word, codeOf, levelOf, flagged, badWord, wordsFitRow}
+use Rattle.edgel.specs.Word.{word, codeOf, levelOf, flagged}
+use Rattle.words.specs.Fit.{badWord, wordsFitRow}
 use Rattle.block.proofs.Bytes.{Below}
 use Rattle.refuse.proofs.Sides.{in-sides}
 use Rattle.outline.specs.Line.{cutAt, lines}

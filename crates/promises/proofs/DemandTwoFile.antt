@@ -7,7 +7,7 @@ use Prim.Native.Nat.{ℕ, _-_, _≤_}
 use lib.ListN.{length, take, drop, replicate}
 use Rattle.tally.specs.Tally.{tally}
 use Rattle.matte.specs.Layout.{eight}
-use Rattle.matte.proofs.Rows.{done-after}
+use Rattle.refuse.proofs.Rows.{done-after}
 use Rattle.edgel.specs.Word.{flagged}
 use Rattle.block.proofs.Bytes.{Below}
 use Rattle.olr.specs.File.{file, fileLength, writeVerdict, writeRoom}

@@ -15,12 +15,12 @@ use denote.Triple.Clauses.{Ended, Lasts, AtExit, atExit}
 use borrow.Author.Tests.{not-false}
 use Rattle.tally.specs.Tally.{tally}
 use Rattle.tally.proofs.Build.{build-length}
-use Rattle.matte.specs.declared.Answer.{Answer}
-use Rattle.matte.specs.declared.Verdict.{Verdict}
+use Rattle.refuse.specs.declared.Answer.{Answer}
+use Rattle.refuse.specs.declared.Verdict.{Verdict}
 use Rattle.matte.specs.Layout.{eight}
 use Rattle.matte.specs.Picture.{Picture, picture, size}
-use Rattle.matte.specs.Refusal.{answer, afterwards}
-use Rattle.matte.proofs.Rows.{done-answer, done-after}
+use Rattle.refuse.specs.Refusal.{answer, afterwards}
+use Rattle.refuse.proofs.Rows.{done-answer, done-after}
 use Rattle.edgel.specs.Word.{flagged}
 use Rattle.outline.specs.List.{listed, listVerdict, listAnswer, listWork, listWords}
 use Rattle.enclosure.specs.Tree.{entries, entry, lineCount}

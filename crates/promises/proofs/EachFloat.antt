@@ -16,7 +16,7 @@ use lib.Ieee.Exact.{HasValue}
 use lib.Ieee.Back.{round-whole}
 use borrow.Author.Tests.{not-true, eqb-true, eqb-false, ne-eqb}
 use Rattle.tally.proofs.Test.{by-test, no, and-1, and-2}
-use Rattle.matte.specs.declared.Verdict.{Verdict}
+use Rattle.refuse.specs.declared.Verdict.{Verdict}
 use Rattle.matte.specs.Layout.{eight}
 use Rattle.matte.specs.Picture.{Picture, at}
 use Rattle.edgel.specs.Edgel.{horizontal, column}

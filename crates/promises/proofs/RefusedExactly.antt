@@ -15,13 +15,13 @@ use lib.ListN.{length, replicate}
 use borrow.Author.Tests.{eq-eqb, not-true, ltb-true, ltb-false}
 use Rattle.tally.specs.Tally.{tally}
 use Rattle.tally.proofs.Test.{by-test, no, and-1, and-2}
-use Rattle.matte.specs.declared.Answer.{Answer}
-use Rattle.matte.specs.declared.Verdict.{Verdict}
+use Rattle.refuse.specs.declared.Answer.{Answer}
+use Rattle.refuse.specs.declared.Verdict.{Verdict}
 use Rattle.matte.specs.Layout.{eight}
 use Rattle.matte.specs.Picture.{Picture}
-use Rattle.matte.specs.Refusal.{Row, verdict, answer}
-use Rattle.matte.proofs.Rows.{done-answer, refused-answer, refused-after}
-use Rattle.matte.proofs.Exactly.{nth, First, first-decides, decided-first, none-zero, zero-none}
+use Rattle.refuse.specs.Refusal.{Row, verdict, answer}
+use Rattle.refuse.proofs.Rows.{done-answer, refused-answer, refused-after}
+use Rattle.refuse.proofs.Exactly.{nth, First, first-decides, decided-first, none-zero, zero-none}
 use Rattle.edgel.specs.Word.{flagged}
 use Rattle.outline.specs.List.{listRows, listAnswer}
 use Rattle.enclosure.specs.Call.{treeRows, treeAnswer}

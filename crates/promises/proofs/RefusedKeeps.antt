@@ -10,11 +10,11 @@ use contract.Lifetimes.{Lfts}
 use denote.Ref.{now, at-last}
 use denote.Triple.Entry.{Args, Res}
 use denote.Triple.Clauses.{Ended, Lasts, AtExit, atExit}
-use Rattle.matte.specs.declared.Answer.{Answer}
-use Rattle.matte.specs.declared.Verdict.{Verdict}
+use Rattle.refuse.specs.declared.Answer.{Answer}
+use Rattle.refuse.specs.declared.Verdict.{Verdict}
 use Rattle.matte.specs.Layout.{eight}
 use Rattle.matte.specs.Picture.{picture}
-use Rattle.matte.specs.Refusal.{answer}
+use Rattle.refuse.specs.Refusal.{answer}
 use Rattle.outline.specs.List.{listVerdict}
 use Rattle.enclosure.specs.Call.{treeVerdict}
 use Rattle.frame.specs.Frame.{frameVerdict}

@@ -11,8 +11,8 @@ use lib.ListN.{length}
 use borrow.Author.Tests.{leb-true, le-leb, eqb-true, eqb-false}
 use Rattle.tally.proofs.Test.{by-test, no, and-1, and-2, both}
 use Rattle.matte.specs.Picture.{Picture, sideFits, samplesFit}
-use Rattle.matte.specs.declared.Verdict.{Verdict}
-use Rattle.matte.specs.Refusal.{Row, verdict, row, sidesRow, samplesRow}
+use Rattle.refuse.specs.declared.Verdict.{Verdict}
+use Rattle.refuse.specs.Refusal.{Row, verdict, row, sidesRow, samplesRow}
 use Rattle.refuse.specs.Shape.{Sides, shapeNumber}
 
 pub sides-in : (w h : ℕ) → (sideFits w && sideFits h) ≡ true → Sides w h

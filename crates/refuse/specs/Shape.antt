@@ -7,7 +7,7 @@ use mathlib.Core.List.{[], _∷_}
 use Prim.Native.Nat.{ℕ, _≤_}
 use lib.ListN.{length}
 use Rattle.matte.specs.Picture.{Picture, size, borderFits}
-use Rattle.matte.specs.Refusal.{verdict, sidesRow, samplesRow}
+use Rattle.refuse.specs.Refusal.{verdict, sidesRow, samplesRow}
 
 -- both sides are 2 to 2,048 (01, Picture, levels, edgels)
 pub record Sides (w h : ℕ) : Type 0 where

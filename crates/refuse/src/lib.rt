@@ -1,4 +1,4 @@
-// The tests behind refusals 1 to 4, which the calls share.
+// Refusals: what a call answers, and the tests behind 1 to 4, which the calls share.
 ghost use mathlib.Core.Path.{_≡_};
 ghost use mathlib.Core.Bool.{Bool, true, false, _&&_};
 ghost use Prim.Native.Nat.{ℕ, _+_, _*_, _≤_, _<_};
@@ -8,6 +8,21 @@ ghost use Rattle.tally.specs.Tally.{every};
 ghost use Rattle.matte.specs.Layout.{eight};
 ghost use Rattle.matte.specs.Picture.{picture, sideFits, levelsFit, borderFits};
 ghost use Rattle.refuse.specs.Shape.{Sides, shapeNumber};
+
+// What a call answers: the refusal's number (0 is done) and place, and the words and lines handed over.
+#[repr(C)]
+pub struct Answer {
+    pub number: u32,
+    pub place: usize,
+    pub words: usize,
+    pub lines: usize,
+}
+
+// The first refusal that applies, with its place; 0 and 0 with none.
+pub struct Verdict {
+    pub number: u32,
+    pub place: usize,
+}
 
 // Both sides are 2 to 2,048.
 pub fn sides_fit(w: usize, h: usize) -> bool

@@ -9,12 +9,12 @@ use native.Mathlib.Omega.{arith}
 use lib.ListN.{length}
 use borrow.Author.Tests.{lt-ltb, le-ltb, ltb-false}
 use Rattle.tally.specs.Tally.{tally}
-use Rattle.matte.specs.declared.Answer.{Answer}
-use Rattle.matte.specs.declared.Verdict.{Verdict}
+use Rattle.refuse.specs.declared.Answer.{Answer}
+use Rattle.refuse.specs.declared.Verdict.{Verdict}
 use Rattle.matte.specs.Layout.{Layout}
 use Rattle.matte.specs.Picture.{Picture, size, levelsFit, borderFits}
-use Rattle.matte.specs.Refusal.{Row, verdict, levelsRow, borderRow, workRow, wordsRow}
-use Rattle.matte.proofs.Rows.{given, passed, fit, unfit, clean, clean-fit, done-answer, refused-answer}
+use Rattle.refuse.specs.Refusal.{Row, verdict, levelsRow, borderRow, workRow, wordsRow}
+use Rattle.refuse.proofs.Rows.{given, passed, fit, unfit, clean, clean-fit, done-answer, refused-answer}
 use Rattle.edgel.specs.Word.{flagged}
 use Rattle.refuse.specs.Shape.{shapeNumber}
 use Rattle.refuse.proofs.Sides.{shape-pass, shape-clean, shape-sides, shape-length}

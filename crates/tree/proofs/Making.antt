@@ -10,11 +10,11 @@ use lib.ListN.{length, take, drop, getD, replicate, length-append, length-drop, 
 use lib.Seq.{take-at, drop-at, drop-drop}
 use Rattle.tally.specs.Tally.{tally, total, build}
 use Rattle.tally.proofs.Build.{build-length, build-at, build-same}
-use Rattle.matte.specs.declared.Answer.{Answer}
-use Rattle.matte.specs.declared.Verdict.{Verdict}
+use Rattle.refuse.specs.declared.Answer.{Answer}
+use Rattle.refuse.specs.declared.Verdict.{Verdict}
 use Rattle.matte.specs.Layout.{eight}
 use Rattle.matte.specs.Picture.{Picture, size}
-use Rattle.matte.proofs.Rows.{done-answer, done-after}
+use Rattle.refuse.proofs.Rows.{done-answer, done-after}
 use Rattle.edgel.specs.Word.{flagged}
 use Rattle.outline.specs.List.{listed, listVerdict, listAnswer, listWork, listWords}
 use Rattle.refuse.specs.Shape.{Ground}

@@ -11,11 +11,11 @@ use lib.ListN.{length}
 use borrow.Author.Tests.{lt-ltb, le-ltb, ltb-false}
 use Rattle.tally.specs.Tally.{total}
 use Rattle.tally.proofs.Test.{by-test}
-use Rattle.matte.specs.declared.Verdict.{Verdict}
+use Rattle.refuse.specs.declared.Verdict.{Verdict}
 use Rattle.matte.specs.Layout.{eight}
 use Rattle.matte.specs.Picture.{Picture}
-use Rattle.matte.specs.Refusal.{Row, rowAt, verdict, sidesRow, samplesRow, levelsRow, borderRow, workRow, wordsRow}
-use Rattle.matte.proofs.Rows.{given, passed, clean}
+use Rattle.refuse.specs.Refusal.{Row, rowAt, verdict, sidesRow, samplesRow, levelsRow, borderRow, workRow, wordsRow}
+use Rattle.refuse.proofs.Rows.{given, passed, clean}
 use Rattle.outline.specs.List.{listed, listVerdict}
 use Rattle.enclosure.specs.Call.{heads, half, treeVerdict}
 

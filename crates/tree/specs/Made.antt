@@ -5,7 +5,7 @@ use mathlib.Core.List.{List, _++_}
 use Prim.Native.Nat.{ℕ}
 use lib.ListN.{length, drop, replicate}
 use Rattle.tally.specs.Tally.{tally}
-use Rattle.matte.specs.declared.Answer.{Answer}
+use Rattle.refuse.specs.declared.Answer.{Answer}
 use Rattle.matte.specs.Layout.{eight}
 use Rattle.matte.specs.Picture.{Picture, size}
 use Rattle.edgel.specs.Word.{flagged}

@@ -5,8 +5,8 @@ mod rank;
 mod walk;
 
 use leads::collect;
-use matte::Answer;
-use matte::Verdict;
+use refuse::Answer;
+use refuse::Verdict;
 use note::note_all;
 use rank::crossings_of;
 use trace::list_lean;

@@ -14,7 +14,8 @@ use borrow.Author.Tests.{ltb-true, eqb-true, eqb-false}
 use Rattle.tally.proofs.Test.{by-test}
 use Rattle.matte.specs.Layout.{eight}
 use Rattle.edgel.specs.Edgel.{edgel}
-use Rattle.edgel.specs.Word.{codeOf, levelOf, badCode}
+use Rattle.edgel.specs.Word.{codeOf, levelOf}
+use Rattle.words.specs.Fit.{badCode}
 use Rattle.refuse.specs.Shape.{Sides}
 use Rattle.words.specs.declared.Grid.{Grid}
 use Rattle.words.specs.Gridded.{gridOf, Gridded}

@@ -16,7 +16,8 @@ use Rattle.tally.proofs.Test.{by-test}
 use Rattle.tally.proofs.Count.{count-append}
 use Rattle.tally.proofs.Build.{build-length, build-at, is-build}
 use Rattle.matte.specs.Layout.{eight}
-use Rattle.edgel.specs.Word.{levelOf, badCode, badWord}
+use Rattle.edgel.specs.Word.{levelOf}
+use Rattle.words.specs.Fit.{badCode, badWord}
 use Rattle.words.specs.Listed.{levelTable, wordFits}
 
 pub table-length : (ks : List ℕ) → length (levelTable eight ks) ≡ 256

@@ -7,7 +7,8 @@ use lib.Dec.{eqb, ltb}
 use lib.ListN.{getD}
 use Rattle.tally.specs.Tally.{one, count, build}
 use Rattle.matte.specs.Layout.{Layout}
-use Rattle.edgel.specs.Word.{levelOf, badCode}
+use Rattle.edgel.specs.Word.{levelOf}
+use Rattle.words.specs.Fit.{badCode}
 
 module _ (L : Layout) where
   -- entry k is 1 if level k is listed, else 0 (01, Numbers for a refused call, 8)

@@ -6,7 +6,7 @@ ghost use mathlib.Core.Path.{_≡_};
 ghost use Rattle.tally.specs.Tally.{firstAt};
 ghost use Rattle.matte.specs.Layout.{eight};
 ghost use Rattle.edgel.specs.Edgel.{edgel};
-ghost use Rattle.edgel.specs.Word.{badCode, badWord};
+ghost use Rattle.words.specs.Fit.{badCode, badWord};
 ghost use Rattle.refuse.specs.Shape.{Sides};
 ghost use Rattle.words.specs.Gridded.{gridOf, Gridded};
 ghost use Rattle.words.specs.Listed.{levelTable, wordFits};

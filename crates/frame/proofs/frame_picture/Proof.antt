@@ -4,11 +4,11 @@ use mathlib.Core.List.{_++_}
 use Prim.Native.Nat.{_*_}
 use borrow.Author.Needs.{needs}
 use lib.ListN.{drop}
-use Rattle.matte.specs.declared.Verdict.{Verdict}
+use Rattle.refuse.specs.declared.Verdict.{Verdict}
 use Rattle.matte.specs.Layout.{eight}
 use Rattle.matte.specs.Picture.{picture}
-use Rattle.matte.specs.Refusal.{answer, afterwards}
-use Rattle.matte.proofs.Rows.{done-answer, refused-answer, done-after, refused-after}
+use Rattle.refuse.specs.Refusal.{answer, afterwards}
+use Rattle.refuse.proofs.Rows.{done-answer, refused-answer, done-after, refused-after}
 use Rattle.frame.specs.Frame.{framed}
 use Rattle.frame.proofs.Writes.{framed-list}
 use Rattle.frame.proofs.frame_picture.Statement.{statement}

@@ -8,8 +8,8 @@ use borrow.Author.Needs.{needs}
 use borrow.Author.Tests.{eq-eqb, ne-eqb, lt-ltb, le-ltb, not-true, not-false}
 use lib.Dec.{ltb}
 use Rattle.matte.specs.Picture.{picture, sideFits, samplesFit}
-use Rattle.matte.specs.Refusal.{row, samplesRow}
-use Rattle.matte.proofs.Rows.{fit, unfit, given, passed}
+use Rattle.refuse.specs.Refusal.{row, samplesRow}
+use Rattle.refuse.proofs.Rows.{fit, unfit, given, passed}
 use Rattle.refuse.proofs.Sides.{sides-in}
 use Rattle.frame.proofs.frame_verdict.Statement.{statement}
 use Rattle.frame.proofs.frame_verdict.Tie as tie

@@ -1,7 +1,7 @@
 -- `olr::read_file` meets its contract. Assumes nothing.
 use mathlib.Core.Path.{sym, ap, _∙_}
 use native.Mathlib.Omega.{arith}
-use Rattle.matte.specs.declared.Verdict.{Verdict}
+use Rattle.refuse.specs.declared.Verdict.{Verdict}
 use Rattle.olr.proofs.Laid.{laid, laid-holds}
 use Rattle.olr.proofs.Read.{accepted, read-refused, read-taken, read-long}
 use borrow.Author.Needs.{needs}

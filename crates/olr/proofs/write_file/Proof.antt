@@ -3,7 +3,7 @@ use mathlib.Core.Path.{sym, ap, _∙_}
 use native.Mathlib.Omega.{arith}
 use lib.Seq.{length-take-le}
 use borrow.Rule.Slice.PartMut.{same-len-mid}
-use Rattle.matte.specs.declared.Verdict.{Verdict}
+use Rattle.refuse.specs.declared.Verdict.{Verdict}
 use Rattle.refuse.proofs.Sides.{sides-in}
 use Rattle.olr.proofs.Ascend.{levels-length}
 use Rattle.olr.proofs.Write.{accepted, write-refused, write-written}

@@ -10,9 +10,9 @@ use lib.Dec.{ltb}
 use lib.ListN.{length}
 use Rattle.matte.specs.Layout.{eight}
 use Rattle.matte.specs.Picture.{sideFits}
-use Rattle.matte.specs.Refusal.{row}
-use Rattle.matte.proofs.Rows.{fit, unfit, given, passed}
-use Rattle.edgel.specs.Word.{codesRow}
+use Rattle.refuse.specs.Refusal.{row}
+use Rattle.refuse.proofs.Rows.{fit, unfit, given, passed}
+use Rattle.words.specs.Fit.{codesRow}
 use Rattle.refuse.proofs.Sides.{sides-in}
 use Rattle.paint.proofs.member_verdict.Statement.{statement}
 use Rattle.paint.proofs.member_verdict.Tie as tie

@@ -10,9 +10,9 @@ use lib.Dec.{ltb}
 use lib.ListN.{length}
 use Rattle.matte.specs.Layout.{eight}
 use Rattle.matte.specs.Picture.{sideFits, levelsFit}
-use Rattle.matte.specs.Refusal.{row, levelsRow}
-use Rattle.matte.proofs.Rows.{fit, unfit, given, passed}
-use Rattle.edgel.specs.Word.{wordsFitRow}
+use Rattle.refuse.specs.Refusal.{row, levelsRow}
+use Rattle.refuse.proofs.Rows.{fit, unfit, given, passed}
+use Rattle.words.specs.Fit.{wordsFitRow}
 use Rattle.refuse.proofs.Sides.{sides-in}
 use Rattle.paint.proofs.paint_verdict.Statement.{statement}
 use Rattle.paint.proofs.paint_verdict.Tie as tie

@@ -5,10 +5,10 @@ use Prim.Native.Nat.{_*_}
 use native.Mathlib.Omega.{arith}
 use borrow.Author.Needs.{needs}
 use lib.ListN.{drop}
-use Rattle.matte.specs.declared.Verdict.{Verdict}
+use Rattle.refuse.specs.declared.Verdict.{Verdict}
 use Rattle.matte.specs.Layout.{eight}
-use Rattle.matte.specs.Refusal.{answer, afterwards}
-use Rattle.matte.proofs.Rows.{done-answer, refused-answer, done-after, refused-after}
+use Rattle.refuse.specs.Refusal.{answer, afterwards}
+use Rattle.refuse.proofs.Rows.{done-answer, refused-answer, done-after, refused-after}
 use Rattle.paint.specs.Paint.{painting}
 use Rattle.paint.proofs.States.{painting-list}
 use Rattle.paint.proofs.paint_words.Statement.{statement}

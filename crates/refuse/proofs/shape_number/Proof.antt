@@ -4,10 +4,10 @@ use mathlib.Core.Bool.{_&&_}
 use mathlib.Core.List.{[], _∷_}
 use borrow.Author.Needs.{needs}
 use borrow.Author.Tests.{eq-eqb, ne-eqb, not-true, not-false}
-use Rattle.matte.specs.declared.Verdict.{Verdict}
+use Rattle.refuse.specs.declared.Verdict.{Verdict}
 use Rattle.matte.specs.Picture.{picture, sideFits, samplesFit}
-use Rattle.matte.specs.Refusal.{samplesRow}
-use Rattle.matte.proofs.Rows.{fit, unfit}
+use Rattle.refuse.specs.Refusal.{samplesRow}
+use Rattle.refuse.proofs.Rows.{fit, unfit}
 use Rattle.refuse.proofs.Sides.{sides-in}
 use Rattle.refuse.proofs.shape_number.Statement.{statement}
 use Rattle.refuse.proofs.shape_number.Tie as tie

@@ -9,7 +9,7 @@ use borrow.Rule.Slice.PartMut.{putMid, same-len-mid}
 use Rattle.tally.specs.Tally.{tally}
 use Rattle.matte.specs.Layout.{eight}
 use Rattle.matte.specs.Picture.{picture}
-use Rattle.matte.proofs.Rows.{done-answer, done-after}
+use Rattle.refuse.proofs.Rows.{done-answer, done-after}
 use Rattle.edgel.specs.Word.{flagged}
 use Rattle.outline.specs.List.{listed, listVerdict}
 use Rattle.count.proofs.Flat.{area-most}

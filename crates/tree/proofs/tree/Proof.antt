@@ -3,10 +3,10 @@ use mathlib.Core.Path.{_≡_, refl, sym, ap, _∙_}
 use mathlib.Core.List.{List, _++_}
 use lib.ListN.{length, drop, replicate}
 use Rattle.tally.specs.Tally.{tally}
-use Rattle.matte.specs.declared.Verdict.{Verdict}
+use Rattle.refuse.specs.declared.Verdict.{Verdict}
 use Rattle.matte.specs.Layout.{eight}
 use Rattle.matte.specs.Picture.{picture}
-use Rattle.matte.proofs.Rows.{done-answer, refused-answer, done-after, refused-after}
+use Rattle.refuse.proofs.Rows.{done-answer, refused-answer, done-after, refused-after}
 use Rattle.edgel.specs.Word.{flagged}
 use Rattle.outline.specs.List.{listed}
 use Rattle.enclosure.specs.Call.{treeVerdict}

@@ -8,7 +8,7 @@ use borrow.Author.Needs.{needs}
 use lib.ListN.{length, getD}
 use Rattle.matte.specs.Layout.{eight}
 use Rattle.edgel.specs.Edgel.{edgel}
-use Rattle.edgel.specs.Word.{badCode}
+use Rattle.words.specs.Fit.{badCode}
 use Rattle.words.proofs.Fits.{gridded, on-size, code-told}
 use Rattle.words.proofs.Search.{stop, end}
 use Rattle.words.proofs.first_bad_code.Statement.{statement}

@@ -7,7 +7,7 @@ use borrow.Author.Count.{below-none, below-more}
 use borrow.Author.Needs.{needs}
 use lib.ListN.{length, getD}
 use Rattle.matte.specs.Layout.{eight}
-use Rattle.edgel.specs.Word.{badWord}
+use Rattle.words.specs.Fit.{badWord}
 use Rattle.words.specs.Listed.{wordFits}
 use Rattle.words.proofs.Fits.{gridded, on-size}
 use Rattle.words.proofs.Table.{word-told}

@@ -7,7 +7,7 @@ use borrow.Author.Count.{below-none, below-more}
 use borrow.Author.Needs.{needs}
 use lib.ListN.{getD}
 use Rattle.matte.specs.Layout.{eight}
-use Rattle.edgel.specs.Word.{badWord}
+use Rattle.words.specs.Fit.{badWord}
 use Rattle.block.specs.Block.{num4}
 use Rattle.words.specs.Listed.{wordFits}
 use Rattle.words.proofs.Fits.{gridded, on-size}

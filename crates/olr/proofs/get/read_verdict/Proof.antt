@@ -5,7 +5,7 @@ use Prim.Native.Nat.{ℕ}
 use borrow.Author.Tests.{not-true, not-false}
 use Rattle.tally.specs.Tally.{firstAt}
 use Rattle.matte.specs.Layout.{eight}
-use Rattle.edgel.specs.Word.{badWord}
+use Rattle.words.specs.Fit.{badWord}
 use Rattle.olr.specs.Read.{fileWidth, fileHeight, fileLevels, fileWords}
 use Rattle.olr.proofs.Laid.{laid, laid-holds, laid-sides}
 use Rattle.olr.proofs.Read.{badAt, read-12a, read-12b, read-13, read-14, read-8, read-6, read-0}

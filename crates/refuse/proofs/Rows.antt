@@ -7,9 +7,9 @@ use mathlib.Core.List.{List, [], _∷_}
 use Prim.Native.Nat.{ℕ}
 use lib.Dec.{eqb}
 use borrow.Author.Tests.{eq-eqb, ne-eqb, not-false}
-use Rattle.matte.specs.declared.Answer.{Answer}
-use Rattle.matte.specs.declared.Verdict.{Verdict}
-use Rattle.matte.specs.Refusal.{Row, row, verdict, answer, afterwards}
+use Rattle.refuse.specs.declared.Answer.{Answer}
+use Rattle.refuse.specs.declared.Verdict.{Verdict}
+use Rattle.refuse.specs.Refusal.{Row, row, verdict, answer, afterwards}
 
 pub given : (r : Row) (rs : List Row) → r .given ≡ true → verdict (r ∷ rs) ≡ record { number = r .number; place = r .place }
 given r rs e = ap (λ (b : Bool). cond b (record { number = r .number; place = r .place }) (verdict rs)) e

@@ -9,9 +9,9 @@ use mathlib.Core.Logic.{_≢_}
 use Prim.Native.Nat.{ℕ, zero, suc, _<_}
 use native.Mathlib.Omega.{arith}
 use Rattle.tally.proofs.Test.{by-test, no}
-use Rattle.matte.specs.declared.Verdict.{Verdict}
-use Rattle.matte.specs.Refusal.{Row, row, verdict}
-use Rattle.matte.proofs.Rows.{given, passed}
+use Rattle.refuse.specs.declared.Verdict.{Verdict}
+use Rattle.refuse.specs.Refusal.{Row, row, verdict}
+use Rattle.refuse.proofs.Rows.{given, passed}
 
 abbrev pub nth : List Row → ℕ → Row
 nth [] i = row 0 false

@@ -2,7 +2,6 @@
 use crossing::Crossing;
 use crossing::crossing_at;
 use frame::frame_picture;
-use refuse::Answer;
 use olr::Stored;
 use olr::read_file;
 use olr::write_file;
@@ -14,6 +13,7 @@ use paint::start_of;
 use piece::Found;
 use piece::Piece;
 use piece::piece_at;
+use refuse::Answer;
 use trace::list;
 use tree::tree;
 ghost use mathlib.Core.Path.{_≡_};

@@ -1,13 +1,16 @@
-// Refusals: what a call answers, and the tests behind 1 to 4, which the calls share.
+// Refusals: a call's verdict and answer, and the verdicts of the rows that calls begin with.
+mod fit;
+
+pub use fit::area;
+pub use fit::border_fits;
+pub use fit::levels_fit;
+pub use fit::sides_fit;
 ghost use mathlib.Core.Path.{_≡_};
-ghost use mathlib.Core.Bool.{Bool, true, false, _&&_};
-ghost use Prim.Native.Nat.{ℕ, _+_, _*_, _≤_, _<_};
-ghost use lib.Dec.{eqb};
-ghost use lib.ListN.{length, getD};
-ghost use Rattle.tally.specs.Tally.{every};
+ghost use mathlib.Core.List.{[], _∷_};
 ghost use Rattle.matte.specs.Layout.{eight};
-ghost use Rattle.matte.specs.Picture.{picture, sideFits, levelsFit, borderFits};
-ghost use Rattle.refuse.specs.Shape.{Sides, shapeNumber};
+ghost use Rattle.matte.specs.Picture.{picture};
+ghost use Rattle.refuse.specs.Refusal.{rowAt, verdict, answer, sidesRow};
+ghost use Rattle.refuse.specs.Shape.{shapeRows, levelRows, groundRows, sizeRows};
 
 // What a call answers: the refusal's number (0 is done) and place, and the words and lines handed over.
 #[repr(C)]
@@ -24,96 +27,89 @@ pub struct Verdict {
     pub place: usize,
 }
 
-// Both sides are 2 to 2,048.
-pub fn sides_fit(w: usize, h: usize) -> bool
-    ensures { λ r. ⌜ r ≡ (sideFits w && sideFits h) ⌝ }
+// The verdict of one row.
+pub fn row_verdict(number: u32, given: bool, place: usize) -> Verdict
+    ensures { λ r. ⌜ r ≡ verdict (rowAt number given place ∷ []) ⌝ }
 {
-    if w < 2 {
-        return false;
+    if given {
+        return Verdict {
+            number: number,
+            place: place,
+        };
     }
-    if 2048 < w {
-        return false;
+    Verdict {
+        number: 0,
+        place: 0,
     }
-    if h < 2 {
-        return false;
-    }
-    h <= 2048
 }
 
-// How many samples a picture of fitting sides has.
-pub fn area(w: usize, h: usize) -> usize
-    requires { ⌜ Sides w h ⌝ }
-    ensures { λ r. ⌜ (r ≡ w * h) × (r ≤ 4194304) ⌝ }
+// The answer of a call with this verdict, and with these words and lines where it is done.
+pub fn answered(v: Verdict, words: usize, lines: usize) -> Answer
+    ensures { λ r. ⌜ r ≡ answer v words lines ⌝ }
 {
-    w * h
+    if v.number != 0 {
+        return Answer {
+            number: v.number,
+            place: v.place,
+            words: 0,
+            lines: 0,
+        };
+    }
+    Answer {
+        number: 0,
+        place: 0,
+        words: words,
+        lines: lines,
+    }
 }
 
-// Levels are at most 254 and ascend strictly.
-pub fn levels_fit(ks: &[u8]) -> bool
-    ensures { λ r. ⌜ r ≡ levelsFit eight (now (ks .entry)) ⌝ }
+// 1.
+pub fn sides_verdict(w: usize, h: usize) -> Verdict
+    ensures { λ r. ⌜ r ≡ verdict (sidesRow w h ∷ []) ⌝ }
 {
-    let mut low: usize = 0;
-    let mut i = 0;
-    while i < ks.len() {
-        let k = ks[i] as usize;
-        if k < low {
-            return false;
-        }
-        if 255 <= k {
-            return false;
-        }
-        low = k + 1;
-        i += 1;
-    }
-    true
+    row_verdict(1, !sides_fit(w, h), 0)
 }
 
-// Refusal 1, 2 or 0 for none of the two.
-pub fn shape_number(w: usize, h: usize, px: &[u8]) -> u32
-    ensures { λ r. ⌜ r ≡ shapeNumber (picture w h (now (px .entry))) ⌝ }
+// 1 2.
+pub fn shape_verdict(w: usize, h: usize, px: &[u8]) -> Verdict
+    ensures { λ r. ⌜ r ≡ verdict (shapeRows (picture w h (now (px .entry)))) ⌝ }
 {
-    if !sides_fit(w, h) {
-        return 1;
+    let v = sides_verdict(w, h);
+    if v.number != 0 {
+        return v;
     }
-    let n = area(w, h);
-    if px.len() != n {
-        return 2;
-    }
-    0
+    row_verdict(2, px.len() != area(w, h), 0)
 }
 
-// The `count` samples from `from` on, `step` apart, are all v.
-fn run_same(px: &[u8], from: usize, step: usize, count: usize, v: u8) -> bool
-    requires { ⌜ (length (now px) ≤ 4194304) × (step ≤ 2048) × ((j : ℕ) → j < count → from + j * step < length (now px)) ⌝ }
-    ensures { λ r. ⌜ r ≡ every (λ j. eqb (getD (now (px .entry)) (from + j * step) 0) v) count ⌝ }
+// 1 2 3.
+pub fn level_verdict(w: usize, h: usize, px: &[u8], ks: &[u8]) -> Verdict
+    ensures { λ r. ⌜ r ≡ verdict (levelRows eight (picture w h (now (px .entry))) (now (ks .entry))) ⌝ }
 {
-    let mut i = from;
-    let mut j = 0;
-    while j < count {
-        if px[i] != v {
-            return false;
-        }
-        i += step;
-        j += 1;
+    let v = shape_verdict(w, h, px);
+    if v.number != 0 {
+        return v;
     }
-    true
+    row_verdict(3, !levels_fit(ks), 0)
 }
 
-// The border samples all have the value of sample 0.
-pub fn border_fits(w: usize, h: usize, px: &[u8]) -> bool
-    requires { ⌜ (Sides w h) × (length (now px) ≡ w * h) ⌝ }
-    ensures { λ r. ⌜ r ≡ borderFits (picture w h (now (px .entry))) ⌝ }
+// 1 2 3 4.
+pub fn ground_verdict(w: usize, h: usize, px: &[u8], ks: &[u8]) -> Verdict
+    ensures { λ r. ⌜ r ≡ verdict (groundRows eight (picture w h (now (px .entry))) (now (ks .entry))) ⌝ }
 {
-    let n = area(w, h);
-    let v = px[0];
-    if !run_same(px, 0, 1, w, v) {
-        return false;
+    let v = level_verdict(w, h, px, ks);
+    if v.number != 0 {
+        return v;
     }
-    if !run_same(px, n - w, 1, w, v) {
-        return false;
+    row_verdict(4, !border_fits(w, h, px), 0)
+}
+
+// 1 3.
+pub fn size_verdict(w: usize, h: usize, ks: &[u8]) -> Verdict
+    ensures { λ r. ⌜ r ≡ verdict (sizeRows eight w h (now (ks .entry))) ⌝ }
+{
+    let v = sides_verdict(w, h);
+    if v.number != 0 {
+        return v;
     }
-    if !run_same(px, 0, w, h, v) {
-        return false;
-    }
-    run_same(px, w - 1, w, h, v)
+    row_verdict(3, !levels_fit(ks), 0)
 }

@@ -5,10 +5,10 @@ mod rank;
 mod walk;
 
 use leads::collect;
-use refuse::Answer;
-use refuse::Verdict;
 use note::note_all;
 use rank::crossings_of;
+use refuse::Answer;
+use refuse::Verdict;
 use trace::list_lean;
 use trace::list_verdict;
 use walk::strip;

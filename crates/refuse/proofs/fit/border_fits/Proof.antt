@@ -1,4 +1,4 @@
--- `refuse::border_fits` meets its contract: the border fits exactly if the four runs do. Assumes nothing.
+-- `refuse::fit::border_fits` meets its contract: the border fits exactly if the four runs do. Assumes nothing.
 use mathlib.Core.Path.{_≡_, sym, ap, _∙_}
 use mathlib.Core.Bool.{Bool, true, false}
 use mathlib.Core.List.{List}
@@ -12,8 +12,8 @@ use Rattle.tally.proofs.Test.{by-test, no}
 use Rattle.matte.specs.Picture.{picture, borderFits}
 use Rattle.refuse.specs.Shape.{Sides}
 use Rattle.refuse.proofs.Border.{run, Runs, border-runs, runs-border, top-at, bottom-at, left-at, right-at}
-use Rattle.refuse.proofs.border_fits.Statement.{statement}
-use Rattle.refuse.proofs.border_fits.Tie as tie
+use Rattle.refuse.proofs.fit.border_fits.Statement.{statement}
+use Rattle.refuse.proofs.fit.border_fits.Tie as tie
 
 ap-lt : (n w a j : ℕ) → n ≡ a → a - w + j * 1 < a → n - w + j * 1 < a
 ap-lt n w a j e l = omega arith

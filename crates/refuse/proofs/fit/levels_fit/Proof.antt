@@ -1,4 +1,4 @@
--- `refuse::levels_fit` meets its contract: what is left of the list is to pass with the level before. Assumes nothing.
+-- `refuse::fit::levels_fit` meets its contract: what is left of the list is to pass with the level before. Assumes nothing.
 use mathlib.Core.Path.{_≡_, refl, sym, _∙_}
 use Prim.Native.Nat.{_≤_, _-_}
 use native.Mathlib.Omega.{arith}
@@ -7,8 +7,8 @@ use lib.ListN.{length, drop}
 use Rattle.matte.specs.Layout.{eight}
 use Rattle.matte.specs.Picture.{ascend}
 use Rattle.refuse.proofs.Levels.{too-low, too-high, go-on, done}
-use Rattle.refuse.proofs.levels_fit.Statement.{statement}
-use Rattle.refuse.proofs.levels_fit.Tie as tie
+use Rattle.refuse.proofs.fit.levels_fit.Statement.{statement}
+use Rattle.refuse.proofs.fit.levels_fit.Tie as tie
 
 abbrev Inv-loop : tie.InvT-loop
 Inv-loop ks low₀ i₀ low i = (i ≤ length ks) × (ascend eight 0 ks ≡ ascend eight low (drop i ks))

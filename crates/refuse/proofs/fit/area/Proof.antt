@@ -1,10 +1,10 @@
--- `refuse::area` meets its contract: the product of two sides is at most 2,048 · 2,048. Assumes nothing.
+-- `refuse::fit::area` meets its contract: the product of two sides is at most 2,048 · 2,048. Assumes nothing.
 use mathlib.Core.Path.{refl}
 use Prim.Native.Nat.{_*_, _≤_}
 use native.Mathlib.Nat.{mul-le-mul}
 use native.Mathlib.Omega.{arith}
-use Rattle.refuse.proofs.area.Statement.{statement}
-use Rattle.refuse.proofs.area.Tie as tie
+use Rattle.refuse.proofs.fit.area.Statement.{statement}
+use Rattle.refuse.proofs.fit.area.Tie as tie
 
 mul-result : tie.Need-mul-result
 mul-result c = omega (arith, mul-le-mul (c .pre .w-most) (c .pre .h-most))

@@ -1,7 +1,7 @@
--- `refuse::sides_fit` meets its contract. Assumes nothing.
+-- `refuse::fit::sides_fit` meets its contract. Assumes nothing.
 use borrow.Author.Tests.{le-leb, lt-leb}
-use Rattle.refuse.proofs.sides_fit.Statement.{statement}
-use Rattle.refuse.proofs.sides_fit.Tie as tie
+use Rattle.refuse.proofs.fit.sides_fit.Statement.{statement}
+use Rattle.refuse.proofs.fit.sides_fit.Tie as tie
 
 returns : tie.Need-returns
 returns c = simp (lt-leb _ _ (c .if1 .taken))

@@ -1,4 +1,4 @@
--- `refuse::run_same` meets its contract: every sample passed was v. Assumes nothing.
+-- `refuse::fit::run_same` meets its contract: every sample passed was v. Assumes nothing.
 use mathlib.Core.Path.{_≡_, refl, sym, ap, _∙_}
 use mathlib.Core.Bool.{true}
 use Prim.Native.Nat.{ℕ, _+_, _*_, _≤_, _<_, _-_}
@@ -10,8 +10,8 @@ use lib.Dec.{eqb}
 use lib.ListN.{length, getD}
 use Rattle.tally.specs.Tally.{every}
 use Rattle.tally.proofs.Every.{every-not, every-none, every-next}
-use Rattle.refuse.proofs.run_same.Statement.{statement}
-use Rattle.refuse.proofs.run_same.Tie as tie
+use Rattle.refuse.proofs.fit.run_same.Statement.{statement}
+use Rattle.refuse.proofs.fit.run_same.Tie as tie
 
 abbrev Inv-loop : tie.InvT-loop
 Inv-loop px from step count v i₀ j₀ i j =

@@ -10,10 +10,10 @@ use Rattle.refuse.specs.declared.Answer.{Answer}
 use Rattle.refuse.specs.declared.Verdict.{Verdict}
 use Rattle.matte.specs.Layout.{Layout}
 use Rattle.matte.specs.Picture.{Picture, size}
-use Rattle.refuse.specs.Refusal.{Row, verdict, rowAt, answer, afterwards, sidesRow, samplesRow, levelsRow, borderRow, workRow, wordsRow}
+use Rattle.refuse.specs.Refusal.{Row, verdict, rowAt, answer, afterwards}
 use Rattle.edgel.specs.Word.{flagged}
 use Rattle.outline.specs.Line.{cutAt}
-use Rattle.outline.specs.List.{listed}
+use Rattle.outline.specs.List.{listed, listRows}
 use Rattle.enclosure.specs.Tree.{entries, lineCount}
 
 -- horizontal codes are the even ones (01, Numbers for a refused call, 7)
@@ -24,17 +24,9 @@ unfoldable pub half : Picture → List ℕ → ℕ
 half P ks = total (heads P) ks / 2
 
 module _ (L : Layout) (P : Picture) (ks work out tree : List ℕ) where
-  -- 1 2 3 4 5 6, then 7: fewer tree places than half the horizontal crossings of all levels (01, Numbers for a refused call)
+  -- those of the list call, then 7: fewer tree places than half the horizontal crossings of all levels (01, Numbers for a refused call)
   abbrev pub treeRows : List Row
-  treeRows =
-      sidesRow (P .w) (P .h)
-      ∷ samplesRow P
-      ∷ levelsRow L ks
-      ∷ borderRow P
-      ∷ workRow P work
-      ∷ wordsRow out (length (listed L P ks))
-      ∷ rowAt 7 (ltb (length tree) (half P ks)) (half P ks)
-      ∷ []
+  treeRows = listRows L P ks work out ++ (rowAt 7 (ltb (length tree) (half P ks)) (half P ks) ∷ [])
 
   abbrev pub treeVerdict : Verdict
   treeVerdict = verdict treeRows

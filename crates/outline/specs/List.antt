@@ -10,7 +10,8 @@ use Rattle.refuse.specs.declared.Answer.{Answer}
 use Rattle.refuse.specs.declared.Verdict.{Verdict}
 use Rattle.matte.specs.Layout.{Layout}
 use Rattle.matte.specs.Picture.{Picture, size}
-use Rattle.refuse.specs.Refusal.{Row, verdict, answer, afterwards, sidesRow, samplesRow, levelsRow, borderRow, workRow, wordsRow}
+use Rattle.refuse.specs.Refusal.{Row, verdict, answer, afterwards, workRow, wordsRow}
+use Rattle.refuse.specs.Shape.{groundRows}
 use Rattle.edgel.specs.Word.{word, flagged}
 use Rattle.outline.specs.Line.{lines}
 
@@ -34,14 +35,7 @@ module _ (L : Layout) where
     module _ (ks work out : List ℕ) where
       -- 1 2 3 4 5 6 (01, Numbers for a refused call)
       abbrev pub listRows : List Row
-      listRows =
-          sidesRow (P .w) (P .h)
-          ∷ samplesRow P
-          ∷ levelsRow L ks
-          ∷ borderRow P
-          ∷ workRow P work
-          ∷ wordsRow out (length (listed ks))
-          ∷ []
+      listRows = groundRows L P ks ++ (workRow P work ∷ wordsRow out (length (listed ks)) ∷ [])
 
       abbrev pub listVerdict : Verdict
       listVerdict = verdict listRows

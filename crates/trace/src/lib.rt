@@ -11,10 +11,10 @@ pub use line::at_lead;
 pub use line::lead_state;
 use refuse::Answer;
 use refuse::Verdict;
+use refuse::answered;
 use refuse::area;
-use refuse::border_fits;
-use refuse::levels_fit;
-use refuse::shape_number;
+use refuse::ground_verdict;
+use refuse::row_verdict;
 use scan::all_levels;
 ghost use mathlib.Core.Path.{_≡_};
 ghost use mathlib.Core.List.{_++_};
@@ -22,7 +22,7 @@ ghost use Prim.Native.Nat.{_≤_, _<_};
 ghost use lib.ListN.{length, drop, replicate};
 ghost use Rattle.matte.specs.Layout.{eight};
 ghost use Rattle.matte.specs.Picture.{picture};
-ghost use Rattle.outline.specs.List.{listVerdict, listAnswer, listWork, listWords};
+ghost use Rattle.outline.specs.List.{listed, listVerdict, listAnswer, listWork, listWords};
 ghost use Rattle.trace.specs.Search.{reach};
 
 // Sets the first n bytes to 0.
@@ -37,57 +37,34 @@ pub fn clear(work: &mut [u8], n: usize)
     }
 }
 
-// The first refusal that applies, with its place, and the words of a list that is not refused.
+// The first refusal that applies, and the words that were counted for it.
 struct Checked {
-    number: u32,
-    place: usize,
+    refusal: Verdict,
     words: usize,
 }
 
 // The first of the refusals 1 to 6 that applies, by the lengths of the lent memory, and how many words there are if none does.
 fn list_check(w: usize, h: usize, px: &[u8], levels: &[u8], work: &[u8], words: &[u32]) -> Checked
-    ensures { λ r. ⌜ (record { number = r .number; place = r .place } ≡ listVerdict eight (picture w h (now (px .entry))) (now (levels .entry)) (now (work .entry)) (now (words .entry))) × (r .words ≡ listAnswer eight (picture w h (now (px .entry))) (now (levels .entry)) (now (work .entry)) (now (words .entry)) .words) ⌝ }
+    ensures { λ r. ⌜ (r .refusal ≡ listVerdict eight (picture w h (now (px .entry))) (now (levels .entry)) (now (work .entry)) (now (words .entry))) × (r .refusal .number ≡ 0 → r .words ≡ length (listed eight (picture w h (now (px .entry))) (now (levels .entry)))) ⌝ }
 {
-    let shape = shape_number(w, h, px);
-    if shape != 0 {
+    let g = ground_verdict(w, h, px, levels);
+    if g.number != 0 {
         return Checked {
-            number: shape,
-            place: 0,
+            refusal: g,
             words: 0,
         };
     }
-    if !levels_fit(levels) {
+    let v = row_verdict(5, work.len() < px.len(), 0);
+    if v.number != 0 {
         return Checked {
-            number: 3,
-            place: 0,
-            words: 0,
-        };
-    }
-    if !border_fits(w, h, px) {
-        return Checked {
-            number: 4,
-            place: 0,
-            words: 0,
-        };
-    }
-    if work.len() < px.len() {
-        return Checked {
-            number: 5,
-            place: 0,
+            refusal: v,
             words: 0,
         };
     }
     let needed = count_words(px, w, h, levels);
-    if words.len() < needed {
-        return Checked {
-            number: 6,
-            place: needed,
-            words: 0,
-        };
-    }
+    let short = words.len() < needed;
     Checked {
-        number: 0,
-        place: 0,
+        refusal: row_verdict(6, short, needed),
         words: needed,
     }
 }
@@ -104,10 +81,7 @@ pub fn list_verdict(
     ensures { λ r. ⌜ r ≡ listVerdict eight (picture w h (now (px .entry))) (now (levels .entry)) (now (work .entry)) (now (words .entry)) ⌝ }
 {
     let c = list_check(w, h, px, levels, work, words);
-    Verdict {
-        number: c.number,
-        place: c.place,
-    }
+    c.refusal
 }
 
 // Lists a call that is not refused. Marks begin half a row into the work bytes, for speed.
@@ -165,16 +139,12 @@ fn list_by(
     requires { ⌜ (reach four (length (now lo)) ≡ 4194304) × (reach four (length (now hi)) ≡ 4194304) ⌝ }
     ensures { λ r. ⌜ (r ≡ listAnswer eight (picture w h (now (px .entry))) (now (levels .entry)) (now (work .entry)) (now (words .entry))) × (now (work .exit) ≡ listWork eight (picture w h (now (px .entry))) (now (levels .entry)) (now (work .entry)) (now (words .entry))) × (now (words .exit) ≡ listWords eight (picture w h (now (px .entry))) (now (levels .entry)) (now (work .entry)) (now (words .entry))) ⌝ }
 {
-    let v = list_check(w, h, px, levels, work, words);
+    let c = list_check(w, h, px, levels, work, words);
+    let v = c.refusal;
     if v.number != 0 {
-        return Answer {
-            number: v.number,
-            place: v.place,
-            words: 0,
-            lines: 0,
-        };
+        return answered(v, 0, 0);
     }
-    if v.words == 0 {
+    if c.words == 0 {
         clear(work, area(w, h));
         return Answer {
             number: 0,

@@ -4,20 +4,23 @@ use mathlib.Core.List.{List, [], _++_}
 use Prim.Native.Nat.{ℕ, _*_}
 use native.Mathlib.Omega.{arith}
 use lib.ListN.{length, drop, replicate}
-use borrow.Author.Needs.{needs}
 use Rattle.tally.specs.Tally.{tally}
-use Rattle.refuse.specs.declared.Verdict.{Verdict}
 use Rattle.matte.specs.Layout.{eight}
 use Rattle.matte.specs.Picture.{picture}
-use Rattle.refuse.proofs.Rows.{done-answer, refused-answer, done-after, refused-after}
 use Rattle.edgel.specs.Word.{flagged}
+use Rattle.refuse.specs.declared.Verdict.{Verdict}
+use Rattle.refuse.proofs.Rows.{done-answer, refused-answer, done-after, refused-after}
 use Rattle.outline.specs.List.{listed, listVerdict}
-use Rattle.trace.proofs.Refusals.{none, empty-answer, accepted, accepted-words}
+use Rattle.trace.proofs.Refusals.{none, empty-answer, accepted}
+use borrow.Author.Needs.{needs}
 use Rattle.trace.proofs.list_by.Statement.{statement}
 use Rattle.trace.proofs.list_by.Tie as tie
 
 list-check-requires : tie.Need-list-check-requires
-list-check-requires c κs = tt
+list-check-requires c κs = search needs
+
+answered-requires : tie.Need-answered-requires
+answered-requires c κs = search needs
 
 same-length : tie.Need-same-length
 same-length c = search needs
@@ -27,24 +30,24 @@ same-length-2 c = search needs
 
 returns : tie.Need-returns
 returns c =
-    let a = c .before .before .before .before .before .before .before .before .before .before .before .args in
-    let v = c .before .before .list-check .ensures .0 in
-    let n : (listVerdict eight (picture (a .w) (a .h) (a .px .now)) (a .levels .now) (a .work .now) (a .words .now)) .number ≡ 0 → ⊥ = λ z. c .if1 .taken (ap (λ (u : Verdict). u .number) v ∙ z) in (
-      ap (λ (u : Verdict). record { number = u .number; place = u .place; words = 0; lines = 0 }) v ∙ sym (refused-answer (listVerdict eight (picture (a .w) (a .h) (a .px .now)) (a .levels .now) (a .work .now) (a .words .now)) (length (listed eight (picture (a .w) (a .h) (a .px .now)) (a .levels .now))) (tally (flagged eight) (listed eight (picture (a .w) (a .h) (a .px .now)) (a .levels .now))) n),
+    let a = c .before .before .before .before .before .before .before .before .before .before .before .before .before .args in
+    let v = c .before .before .before .before .list-check .ensures .0 in
+    let n : (listVerdict eight (picture (a .w) (a .h) (a .px .now)) (a .levels .now) (a .work .now) (a .words .now)) .number ≡ 0 → ⊥ = λ z. c .before .if1 .taken (ap (λ (u : Verdict). u .number) v ∙ z) in (
+      c .answered .ensures ∙ rw v (refused-answer (listVerdict eight (picture (a .w) (a .h) (a .px .now)) (a .levels .now) (a .work .now) (a .words .now)) 0 0 n ∙ sym (refused-answer (listVerdict eight (picture (a .w) (a .h) (a .px .now)) (a .levels .now) (a .work .now) (a .words .now)) (length (listed eight (picture (a .w) (a .h) (a .px .now)) (a .levels .now))) (tally (flagged eight) (listed eight (picture (a .w) (a .h) (a .px .now)) (a .levels .now))) n)),
       sym (refused-after (listVerdict eight (picture (a .w) (a .h) (a .px .now)) (a .levels .now) (a .work .now) (a .words .now)) (a .work .now) _ n),
       sym (refused-after (listVerdict eight (picture (a .w) (a .h) (a .px .now)) (a .levels .now) (a .work .now) (a .words .now)) (a .words .now) _ n),
     )
 
 area-requires : tie.Need-area-requires
 area-requires c κs =
-    let a = c .before .before .before .before .before .before .before .before .before .before .before .before .before .before .args in
-    accepted eight (picture (a .w) (a .h) (a .px .now)) (a .levels .now) (a .work .now) (a .words .now) _ (c .before .before .before .before .before .list-check .ensures .0) (c .before .before .before .if1 .left) .ground .sides
+    let a = c .before .before .before .before .before .before .before .before .before .before .before .before .before .before .before .args in
+    accepted eight (picture (a .w) (a .h) (a .px .now)) (a .levels .now) (a .work .now) (a .words .now) _ (c .before .before .before .before .before .before .list-check .ensures .0) (c .before .before .before .if1 .left) .ground .sides
 
 clear-requires : tie.Need-clear-requires
 clear-requires c κs =
-    let a = c .before .before .before .before .before .before .before .before .before .before .before .before .before .before .before .args in
+    let a = c .before .before .before .before .before .before .before .before .before .before .before .before .before .before .before .before .args in
     let n : c .area .result ≡ a .w * a .h = c .area .ensures .0 in
-    omega (arith, accepted eight (picture (a .w) (a .h) (a .px .now)) (a .levels .now) (a .work .now) (a .words .now) _ (c .before .before .before .before .before .before .list-check .ensures .0) (c .before .before .before .before .if1 .left) .wide)
+    omega (arith, accepted eight (picture (a .w) (a .h) (a .px .now)) (a .levels .now) (a .work .now) (a .words .now) _ (c .before .before .before .before .before .before .before .list-check .ensures .0) (c .before .before .before .before .if1 .left) .wide)
 
 same-length-3 : tie.Need-same-length-3
 same-length-3 c = search needs
@@ -54,18 +57,18 @@ same-length-4 c = search needs
 
 returns-2 : tie.Need-returns-2
 returns-2 c =
-    let a = c .before .before .before .before .before .before .before .before .before .before .before .before .before .before .before .before .before .before .args in
-    let v = c .before .before .before .before .before .before .before .before .before .list-check .ensures .0 in
+    let a = c .before .before .before .before .before .before .before .before .before .before .before .before .before .before .before .before .before .before .before .args in
+    let v = c .before .before .before .before .before .before .before .before .before .before .list-check .ensures .0 in
     let z : (listVerdict eight (picture (a .w) (a .h) (a .px .now)) (a .levels .now) (a .work .now) (a .words .now)) .number ≡ 0 = ap (λ (u : Verdict). u .number) (sym v) ∙ c .before .before .before .before .before .before .before .if1 .left in
     let l = (listed eight (picture (a .w) (a .h) (a .px .now)) (a .levels .now)) in
-    let e : l ≡ [] = none l (sym (accepted-words eight (picture (a .w) (a .h) (a .px .now)) (a .levels .now) (a .work .now) (a .words .now) _ v (c .before .before .before .before .before .before .before .if1 .left)) ∙ sym (c .before .before .before .before .before .before .before .before .before .list-check .ensures .1) ∙ c .before .before .before .before .before .if2 .taken) in (
+    let e : l ≡ [] = none l (sym (c .before .before .before .before .before .before .before .before .before .before .list-check .ensures .1 (c .before .before .before .before .before .before .before .if1 .left)) ∙ c .before .before .before .before .before .if2 .taken) in (
       empty-answer eight l e ∙ sym (done-answer (listVerdict eight (picture (a .w) (a .h) (a .px .now)) (a .levels .now) (a .work .now) (a .words .now)) (length l) (tally (flagged eight) l) z),
       c .before .before .clear .ensures ∙ ap (λ (y : ℕ). replicate y 0 ++ drop y (a .work .now)) (c .before .before .before .area .ensures .0) ∙ sym (done-after (listVerdict eight (picture (a .w) (a .h) (a .px .now)) (a .levels .now) (a .work .now) (a .words .now)) (a .work .now) _ z),
       ap (λ (y : List ℕ). y ++ drop (length y) (a .words .now)) (sym e) ∙ sym (done-after (listVerdict eight (picture (a .w) (a .h) (a .px .now)) (a .levels .now) (a .work .now) (a .words .now)) (a .words .now) (l ++ drop (length l) (a .words .now)) z),
     )
 
 list-lines-requires : tie.Need-list-lines-requires
-list-lines-requires c κs = (ap (λ (u : Verdict). u .number) (sym (c .before .before .before .before .before .before .before .before .list-check .ensures .0)) ∙ c .before .before .before .before .before .before .if1 .left, c .before .before .before .before .before .before .before .before .before .before .before .before .before .before .before .before .before .pre .0, c .before .before .before .before .before .before .before .before .before .before .before .before .before .before .before .before .before .pre .1)
+list-lines-requires c κs = (ap (λ (u : Verdict). u .number) (sym (c .before .before .before .before .before .before .before .before .before .list-check .ensures .0)) ∙ c .before .before .before .before .before .before .if1 .left, c .before .before .before .before .before .before .before .before .before .before .before .before .before .before .before .before .before .before .pre .0, c .before .before .before .before .before .before .before .before .before .before .before .before .before .before .before .before .before .before .pre .1)
 
 same-length-5 : tie.Need-same-length-5
 same-length-5 c = search needs
@@ -87,6 +90,7 @@ list-by-spec =
     tie.close
     (tie.spec
     list-check-requires
+    answered-requires
     same-length
     same-length-2
     returns

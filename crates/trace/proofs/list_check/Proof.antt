@@ -1,111 +1,61 @@
--- `trace::list_check` meets its contract: one row after the other. Assumes nothing.
-use mathlib.Core.Path.{_≡_, refl, sym, ap, _∙_}
-use mathlib.Core.Bool.{true}
-use Prim.Native.Nat.{ℕ, _*_}
-use native.Mathlib.Omega.{arith}
+-- `trace::list_check` meets its contract: 1 2 3 4, then 5, then 6. Assumes nothing.
+use mathlib.Core.Path.{refl, sym, ap, _∙_}
+use mathlib.Core.List.{[], _∷_}
 use lib.ListN.{length}
-use borrow.Author.Tests.{not-true, not-false}
 use Rattle.matte.specs.Layout.{eight}
-use Rattle.matte.specs.Picture.{picture, levelsFit, borderFits}
-use Rattle.refuse.specs.Shape.{shapeNumber}
-use Rattle.refuse.proofs.Sides.{shape-first, shape-sides, shape-length}
-use Rattle.trace.proofs.Refusals.{from3, at-3, at-4, at-5, at-6, at-0, refused-words, accepted-words}
+use Rattle.matte.specs.Picture.{picture}
+use Rattle.refuse.specs.declared.Verdict.{Verdict}
+use Rattle.refuse.specs.Refusal.{workRow, wordsRow}
+use Rattle.refuse.specs.Shape.{groundRows}
+use Rattle.refuse.proofs.Rows.{stopped, gone-on}
+use Rattle.refuse.proofs.Sides.{grounded}
+use Rattle.outline.specs.List.{listed}
 use borrow.Author.Needs.{needs}
 use Rattle.trace.proofs.list_check.Statement.{statement}
 use Rattle.trace.proofs.list_check.Tie as tie
 
-shape-number-requires : tie.Need-shape-number-requires
-shape-number-requires c κs = search needs
+ground-verdict-requires : tie.Need-ground-verdict-requires
+ground-verdict-requires c κs = search needs
 
 returns : tie.Need-returns
 returns c =
-    let a = c .before .before .before .before .before .before .args in
-    let n = c .before .shape-number .ensures in
-    let e = ap (λ (v : ℕ). record { number = v; place = 0 }) n ∙ sym (shape-first (picture (a .w) (a .h) (a .px .now)) (from3 eight (picture (a .w) (a .h) (a .px .now)) (a .levels .now) (a .work .now) (a .words .now)) (λ z. c .if1 .taken (n ∙ z))) in
-    (e, refused-words eight (picture (a .w) (a .h) (a .px .now)) (a .levels .now) (a .work .now) (a .words .now) _ e (c .if1 .taken))
+    let a = c .before .before .before .before .before .before .before .args in
+    (stopped (groundRows eight (picture (a .w) (a .h) (a .px .now)) (a .levels .now)) ((workRow (picture (a .w) (a .h) (a .px .now)) (a .work .now)) ∷ (wordsRow (a .words .now) (length (listed eight (picture (a .w) (a .h) (a .px .now)) (a .levels .now)))) ∷ []) _ (c .before .before .ground-verdict .ensures) (c .if1 .taken), λ z. absurd (c .if1 .taken z))
 
-levels-fit-requires : tie.Need-levels-fit-requires
-levels-fit-requires c κs = search needs
+row-verdict-requires : tie.Need-row-verdict-requires
+row-verdict-requires c κs = search needs
 
 returns-2 : tie.Need-returns-2
 returns-2 c =
-    let a = c .before .before .before .before .before .before .before .before .args in
-    let n = c .before .before .before .shape-number .ensures in
-    let s : shapeNumber (picture (a .w) (a .h) (a .px .now)) ≡ 0 = sym n ∙ c .before .before .if1 .left in
-    let e = sym (at-3 eight (picture (a .w) (a .h) (a .px .now)) (a .levels .now) (a .work .now) (a .words .now) s (sym (c .before .levels-fit .ensures) ∙ not-true _ (c .if2 .taken))) in
-    (e, refused-words eight (picture (a .w) (a .h) (a .px .now)) (a .levels .now) (a .work .now) (a .words .now) _ e (λ z. omega arith))
-
-border-fits-requires : tie.Need-border-fits-requires
-border-fits-requires c κs =
-    let a = c .before .before .before .before .before .before .before .before .args in
-    let n = c .before .before .before .shape-number .ensures in
-    let s : shapeNumber (picture (a .w) (a .h) (a .px .now)) ≡ 0 = sym n ∙ c .before .before .if1 .left in
-    (shape-sides (picture (a .w) (a .h) (a .px .now)) s, shape-length (picture (a .w) (a .h) (a .px .now)) s)
-
-returns-3 : tie.Need-returns-3
-returns-3 c =
     let a = c .before .before .before .before .before .before .before .before .before .before .args in
-    let n = c .before .before .before .before .before .shape-number .ensures in
-    let s : shapeNumber (picture (a .w) (a .h) (a .px .now)) ≡ 0 = sym n ∙ c .before .before .before .before .if1 .left in
-    let l : levelsFit eight (a .levels .now) ≡ true = sym (c .before .before .before .levels-fit .ensures) ∙ not-false _ (c .before .before .if2 .left) in
-    let e = sym (at-4 eight (picture (a .w) (a .h) (a .px .now)) (a .levels .now) (a .work .now) (a .words .now) s l (sym (c .before .border-fits .ensures) ∙ not-true _ (c .if3 .taken))) in
-    (e, refused-words eight (picture (a .w) (a .h) (a .px .now)) (a .levels .now) (a .work .now) (a .words .now) _ e (λ z. omega arith))
-
-returns-4 : tie.Need-returns-4
-returns-4 c =
-    let a = c .before .before .before .before .before .before .before .before .before .before .before .args in
-    let n = c .before .before .before .before .before .before .shape-number .ensures in
-    let s : shapeNumber (picture (a .w) (a .h) (a .px .now)) ≡ 0 = sym n ∙ c .before .before .before .before .before .if1 .left in
-    let l : levelsFit eight (a .levels .now) ≡ true = sym (c .before .before .before .before .levels-fit .ensures) ∙ not-false _ (c .before .before .before .if2 .left) in
-    let f : borderFits (picture (a .w) (a .h) (a .px .now)) ≡ true = sym (c .before .before .border-fits .ensures) ∙ not-false _ (c .before .if3 .left) in
-    let m : length (a .px .now) ≡ a .w * a .h = shape-length (picture (a .w) (a .h) (a .px .now)) s in
-    let e = sym (at-5 eight (picture (a .w) (a .h) (a .px .now)) (a .levels .now) (a .work .now) (a .words .now) s l f (omega (arith, c .if4 .taken))) in
-    (e, refused-words eight (picture (a .w) (a .h) (a .px .now)) (a .levels .now) (a .work .now) (a .words .now) _ e (λ z. omega arith))
+    let g = grounded eight (picture (a .w) (a .h) (a .px .now)) (a .levels .now) (ap (λ (v : Verdict). v .number) (sym (c .before .before .before .before .before .ground-verdict .ensures)) ∙ c .before .before .before .if1 .left) in
+    (gone-on (groundRows eight (picture (a .w) (a .h) (a .px .now)) (a .levels .now)) ((workRow (picture (a .w) (a .h) (a .px .now)) (a .work .now)) ∷ (wordsRow (a .words .now) (length (listed eight (picture (a .w) (a .h) (a .px .now)) (a .levels .now)))) ∷ []) _ _ refl (c .before .before .before .before .before .ground-verdict .ensures) (c .before .before .before .if1 .left)
+    (stopped ((workRow (picture (a .w) (a .h) (a .px .now)) (a .work .now)) ∷ []) ((wordsRow (a .words .now) (length (listed eight (picture (a .w) (a .h) (a .px .now)) (a .levels .now)))) ∷ []) _ (rw (g .0 .whole) at (c .before .before .row-verdict .ensures)) (c .if2 .taken)), λ z. absurd (c .if2 .taken z))
 
 count-words-requires : tie.Need-count-words-requires
 count-words-requires c κs =
-    let a = c .before .before .before .before .before .before .before .before .before .before .before .args in
-    let n = c .before .before .before .before .before .before .shape-number .ensures in
-    let s : shapeNumber (picture (a .w) (a .h) (a .px .now)) ≡ 0 = sym n ∙ c .before .before .before .before .before .if1 .left in
-    let l : levelsFit eight (a .levels .now) ≡ true = sym (c .before .before .before .before .levels-fit .ensures) ∙ not-false _ (c .before .before .before .if2 .left) in
-    let f : borderFits (picture (a .w) (a .h) (a .px .now)) ≡ true = sym (c .before .before .border-fits .ensures) ∙ not-false _ (c .before .if3 .left) in
-    (record { sides = shape-sides (picture (a .w) (a .h) (a .px .now)) s; whole = shape-length (picture (a .w) (a .h) (a .px .now)) s; border = f }, l)
+    let a = c .before .before .before .before .before .before .before .before .before .before .args in
+    let g = grounded eight (picture (a .w) (a .h) (a .px .now)) (a .levels .now) (ap (λ (v : Verdict). v .number) (sym (c .before .before .before .before .before .ground-verdict .ensures)) ∙ c .before .before .before .if1 .left) in
+    (g .0, g .1)
 
-returns-5 : tie.Need-returns-5
-returns-5 c =
-    let a = c .before .before .before .before .before .before .before .before .before .before .before .before .before .args in
-    let n = c .before .before .before .before .before .before .before .before .shape-number .ensures in
-    let s : shapeNumber (picture (a .w) (a .h) (a .px .now)) ≡ 0 = sym n ∙ c .before .before .before .before .before .before .before .if1 .left in
-    let l : levelsFit eight (a .levels .now) ≡ true = sym (c .before .before .before .before .before .before .levels-fit .ensures) ∙ not-false _ (c .before .before .before .before .before .if2 .left) in
-    let f : borderFits (picture (a .w) (a .h) (a .px .now)) ≡ true = sym (c .before .before .before .before .border-fits .ensures) ∙ not-false _ (c .before .before .before .if3 .left) in
-    let m : length (a .px .now) ≡ a .w * a .h = shape-length (picture (a .w) (a .h) (a .px .now)) s in
-    let y = c .before .count-words .ensures in
-    let e = ap (λ (v : ℕ). record { number = 6; place = v }) y ∙ sym (at-6 eight (picture (a .w) (a .h) (a .px .now)) (a .levels .now) (a .work .now) (a .words .now) s l f (omega (arith, c .before .before .if4 .left)) (omega (arith, c .if5 .taken, y))) in
-    (e, refused-words eight (picture (a .w) (a .h) (a .px .now)) (a .levels .now) (a .work .now) (a .words .now) _ e (λ z. omega arith))
+row-verdict-requires-2 : tie.Need-row-verdict-requires-2
+row-verdict-requires-2 c κs = search needs
 
-returns-6 : tie.Need-returns-6
-returns-6 c =
-    let a = c .before .before .before .before .before .before .before .before .before .before .before .before .before .args in
-    let n = c .before .before .before .before .before .before .before .before .shape-number .ensures in
-    let s : shapeNumber (picture (a .w) (a .h) (a .px .now)) ≡ 0 = sym n ∙ c .before .before .before .before .before .before .before .if1 .left in
-    let l : levelsFit eight (a .levels .now) ≡ true = sym (c .before .before .before .before .before .before .levels-fit .ensures) ∙ not-false _ (c .before .before .before .before .before .if2 .left) in
-    let f : borderFits (picture (a .w) (a .h) (a .px .now)) ≡ true = sym (c .before .before .before .before .border-fits .ensures) ∙ not-false _ (c .before .before .before .if3 .left) in
-    let m : length (a .px .now) ≡ a .w * a .h = shape-length (picture (a .w) (a .h) (a .px .now)) s in
-    let y = c .before .count-words .ensures in
-    let e = sym (at-0 eight (picture (a .w) (a .h) (a .px .now)) (a .levels .now) (a .work .now) (a .words .now) s l f (omega (arith, c .before .before .if4 .left)) (omega (arith, c .if5 .left, y))) in
-    (e, y ∙ sym (accepted-words eight (picture (a .w) (a .h) (a .px .now)) (a .levels .now) (a .work .now) (a .words .now) _ e refl))
+returns-3 : tie.Need-returns-3
+returns-3 c =
+    let a = c .before .before .before .before .before .before .before .before .before .before .before .before .args in
+    let g = grounded eight (picture (a .w) (a .h) (a .px .now)) (a .levels .now) (ap (λ (v : Verdict). v .number) (sym (c .before .before .before .before .before .before .before .ground-verdict .ensures)) ∙ c .before .before .before .before .before .if1 .left) in
+    (gone-on (groundRows eight (picture (a .w) (a .h) (a .px .now)) (a .levels .now)) ((workRow (picture (a .w) (a .h) (a .px .now)) (a .work .now)) ∷ (wordsRow (a .words .now) (length (listed eight (picture (a .w) (a .h) (a .px .now)) (a .levels .now)))) ∷ []) _ _ refl (c .before .before .before .before .before .before .before .ground-verdict .ensures) (c .before .before .before .before .before .if1 .left)
+    (gone-on ((workRow (picture (a .w) (a .h) (a .px .now)) (a .work .now)) ∷ []) ((wordsRow (a .words .now) (length (listed eight (picture (a .w) (a .h) (a .px .now)) (a .levels .now)))) ∷ []) _ _ refl (rw (g .0 .whole) at (c .before .before .before .before .row-verdict .ensures)) (c .before .before .if2 .left) (rw (c .before .count-words .ensures) at (c .row-verdict2 .ensures))), λ z. c .before .count-words .ensures)
 
 pub list-check-spec : {M : Type 1} → statement M
 list-check-spec =
     tie.close
     (tie.spec
-    shape-number-requires
+    ground-verdict-requires
     returns
-    levels-fit-requires
+    row-verdict-requires
     returns-2
-    border-fits-requires
-    returns-3
-    returns-4
     count-words-requires
-    returns-5
-    returns-6)
+    row-verdict-requires-2
+    returns-3)

@@ -84,8 +84,8 @@ pub fn list_verdict(
     c.refusal
 }
 
-// Lists a call that is not refused. Marks begin half a row into the work bytes, for speed.
-fn list_lines(
+// Lists a call that is not refused, with room for the bounds of any picture. Marks begin half a row into the work bytes, for speed.
+pub fn list_lines(
     w: usize,
     h: usize,
     px: &[u8],
@@ -124,39 +124,7 @@ fn list_lines(
     }
 }
 
-// Lists every line of every level into the lent word places, or refuses and changes nothing. Where nothing is crossed, there is nothing to look for.
-fn list_by(
-    w: usize,
-    h: usize,
-    px: &[u8],
-    levels: &[u8],
-    work: &mut [u8],
-    words: &mut [u32],
-    lo: &mut [u8],
-    hi: &mut [u8],
-    four: bool,
-) -> Answer
-    requires { ⌜ (reach four (length (now lo)) ≡ 4194304) × (reach four (length (now hi)) ≡ 4194304) ⌝ }
-    ensures { λ r. ⌜ (r ≡ listAnswer eight (picture w h (now (px .entry))) (now (levels .entry)) (now (work .entry)) (now (words .entry))) × (now (work .exit) ≡ listWork eight (picture w h (now (px .entry))) (now (levels .entry)) (now (work .entry)) (now (words .entry))) × (now (words .exit) ≡ listWords eight (picture w h (now (px .entry))) (now (levels .entry)) (now (work .entry)) (now (words .entry))) ⌝ }
-{
-    let c = list_check(w, h, px, levels, work, words);
-    let v = c.refusal;
-    if v.number != 0 {
-        return answered(v, 0, 0);
-    }
-    if c.words == 0 {
-        clear(work, area(w, h));
-        return Answer {
-            number: 0,
-            place: 0,
-            words: 0,
-            lines: 0,
-        };
-    }
-    list_lines(w, h, px, levels, work, words, lo, hi, four)
-}
-
-// The same, with bounds of 64 samples each on the stack.
+// Lists every line of every level into the lent word places, or refuses and changes nothing. Where nothing is crossed, there is nothing to look for. Bounds are on the stack, for 64 samples each.
 pub fn list(
     w: usize,
     h: usize,
@@ -167,23 +135,16 @@ pub fn list(
 ) -> Answer
     ensures { λ r. ⌜ (r ≡ listAnswer eight (picture w h (now (px .entry))) (now (levels .entry)) (now (work .entry)) (now (words .entry))) × (now (work .exit) ≡ listWork eight (picture w h (now (px .entry))) (now (levels .entry)) (now (work .entry)) (now (words .entry))) × (now (words .exit) ≡ listWords eight (picture w h (now (px .entry))) (now (levels .entry)) (now (work .entry)) (now (words .entry))) ⌝ }
 {
+    let c = list_check(w, h, px, levels, work, words);
+    let v = c.refusal;
+    if v.number != 0 {
+        return answered(v, 0, 0);
+    }
+    if c.words == 0 {
+        clear(work, area(w, h));
+        return answered(v, 0, 0);
+    }
     let mut lo = [0u8; 65536];
     let mut hi = [0u8; 65536];
-    list_by(w, h, px, levels, work, words, &mut lo, &mut hi, false)
-}
-
-// The same on a quarter of the stack, and slower: bounds of 256 samples each.
-pub fn list_lean(
-    w: usize,
-    h: usize,
-    px: &[u8],
-    levels: &[u8],
-    work: &mut [u8],
-    words: &mut [u32],
-) -> Answer
-    ensures { λ r. ⌜ (r ≡ listAnswer eight (picture w h (now (px .entry))) (now (levels .entry)) (now (work .entry)) (now (words .entry))) × (now (work .exit) ≡ listWork eight (picture w h (now (px .entry))) (now (levels .entry)) (now (work .entry)) (now (words .entry))) × (now (words .exit) ≡ listWords eight (picture w h (now (px .entry))) (now (levels .entry)) (now (work .entry)) (now (words .entry))) ⌝ }
-{
-    let mut lo = [0u8; 16384];
-    let mut hi = [0u8; 16384];
-    list_by(w, h, px, levels, work, words, &mut lo, &mut hi, true)
+    list_lines(w, h, px, levels, work, words, &mut lo, &mut hi, false)
 }

@@ -9,7 +9,9 @@ use note::note_all;
 use rank::crossings_of;
 use refuse::Answer;
 use refuse::Verdict;
-use trace::list_lean;
+use refuse::answered;
+use refuse::row_verdict;
+use trace::list_lines;
 use trace::list_verdict;
 use walk::strip;
 use walk::walk;
@@ -36,22 +38,10 @@ fn tree_verdict(
 {
     let v = list_verdict(w, h, px, levels, work, words);
     if v.number != 0 {
-        return Verdict {
-            number: v.number,
-            place: v.place,
-        };
+        return v;
     }
     let half = crossings_of(px, w, h, levels) / 2;
-    if places.len() < half {
-        return Verdict {
-            number: 7,
-            place: half,
-        };
-    }
-    Verdict {
-        number: 0,
-        place: 0,
-    }
+    row_verdict(7, places.len() < half, half)
 }
 
 // Lists the lines, takes their leads to the tree places, notes all crossings at their ranks in the word places, decides parents and kinds by the ranks, and lists again, which puts the words back and clears the work bytes.
@@ -67,13 +57,15 @@ fn make(
     requires { ⌜ (listVerdict eight (picture w h (now px)) (now levels) (now work) (now words) .number ≡ 0) × (half (picture w h (now px)) (now levels) ≤ length (now places)) ⌝ }
     ensures { λ r. ⌜ TreeMade (picture w h (now (px .entry))) (now (levels .entry)) (now (work .entry)) (now (words .entry)) (now (places .entry)) r (now (work .exit)) (now (words .exit)) (now (places .exit)) ⌝ }
 {
-    let a = list_lean(w, h, px, levels, work, words);
+    let mut lo = [0u8; 16384];
+    let mut hi = [0u8; 16384];
+    let a = list_lines(w, h, px, levels, work, words, &mut lo, &mut hi, true);
     let n = a.lines;
     collect(words, a.words, places);
     note_all(px, w, h, levels, places, n, work, words);
     walk(px, w, h, levels, words, places);
     strip(places, n);
-    list_lean(w, h, px, levels, work, words)
+    list_lines(w, h, px, levels, work, words, &mut lo, &mut hi, true)
 }
 
 // Lists every line of every level and gives each its entry in the tree, or refuses and changes nothing.
@@ -90,12 +82,7 @@ pub fn tree(
 {
     let v = tree_verdict(w, h, px, levels, work, words, places);
     if v.number != 0 {
-        return Answer {
-            number: v.number,
-            place: v.place,
-            words: 0,
-            lines: 0,
-        };
+        return answered(v, 0, 0);
     }
     make(w, h, px, levels, work, words, places)
 }

@@ -1,7 +1,7 @@
 -- One crossing: its exact fraction, its point as floats, and the call. Assumes nothing.
 -- Definitions: `num`, `den` the fraction of the way; `along` a coordinate moved by it; `crossingRows`, `crossingVerdict`, `crossingAnswer` the call.
 use mathlib.Core.Bool.{Bool, true, false, not, cond}
-use mathlib.Core.List.{List, [], _∷_}
+use mathlib.Core.List.{List, [], _∷_, _++_}
 use Prim.Native.Nat.{ℕ, _+_, _*_, _/_, _%_}
 use lib.IntN.{pos}
 use lib.Ieee.{Float, binary64, add, div, ofInt}
@@ -9,7 +9,8 @@ use Rattle.tally.specs.Tally.{apart}
 use Rattle.refuse.specs.declared.Verdict.{Verdict}
 use Rattle.matte.specs.Layout.{Layout}
 use Rattle.matte.specs.Picture.{Picture, at, high}
-use Rattle.refuse.specs.Refusal.{Row, verdict, row, answer, afterwards, sidesRow, samplesRow, levelsRow}
+use Rattle.refuse.specs.Refusal.{Row, verdict, row, answer, afterwards}
+use Rattle.refuse.specs.Shape.{levelRows}
 use Rattle.edgel.specs.Heading.{number}
 use Rattle.edgel.specs.Edgel.{horizontal, first, second, column, crossed, headingAt}
 use Rattle.edgel.specs.Edgel as Edgel
@@ -43,13 +44,7 @@ module _ (P : Picture) (k c : ℕ) where
   module _ (L : Layout) where
     -- 1 2 3 8 10 (01, Numbers for a refused call)
     abbrev pub crossingRows : List Row
-    crossingRows =
-        sidesRow (P .w) (P .h)
-        ∷ samplesRow P
-        ∷ levelsRow L (k ∷ [])
-        ∷ codeRow (P .w) (P .h) c
-        ∷ row 10 (not (crossed (high P k) (P .w) c))
-        ∷ []
+    crossingRows = levelRows L P (k ∷ []) ++ (codeRow (P .w) (P .h) c ∷ row 10 (not (crossed (high P k) (P .w) c)) ∷ [])
 
     abbrev pub crossingVerdict : Verdict
     crossingVerdict = verdict crossingRows

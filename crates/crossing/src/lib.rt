@@ -2,9 +2,9 @@
 use edgel::Heading;
 use refuse::Answer;
 use refuse::Verdict;
-use refuse::area;
-use refuse::levels_fit;
-use refuse::sides_fit;
+use refuse::answered;
+use refuse::level_verdict;
+use refuse::row_verdict;
 use words::edgel_fits;
 ghost use mathlib.Core.Path.{_≡_};
 ghost use mathlib.Core.Bool.{Bool, true, false, cond};
@@ -118,43 +118,18 @@ fn coordinate(moves: bool, n: u32, a: u32, b: u32) -> f64
 fn crossing_verdict(w: usize, h: usize, px: &[u8], k: u8, code: u32) -> Verdict
     ensures { λ r. ⌜ r ≡ crossingVerdict (picture w h (now (px .entry))) k code eight ⌝ }
 {
-    if !sides_fit(w, h) {
-        return Verdict {
-            number: 1,
-            place: 0,
-        };
-    }
-    if px.len() != area(w, h) {
-        return Verdict {
-            number: 2,
-            place: 0,
-        };
-    }
     let ks = [k];
-    if !levels_fit(&ks) {
-        return Verdict {
-            number: 3,
-            place: 0,
-        };
+    let v = level_verdict(w, h, px, &ks);
+    if v.number != 0 {
+        return v;
     }
-    if !edgel_fits(w, h, code) {
-        return Verdict {
-            number: 8,
-            place: 0,
-        };
+    let u = row_verdict(8, !edgel_fits(w, h, code), 0);
+    if u.number != 0 {
+        return u;
     }
     let i = (code / 2) as usize;
     let j = other_end(w, code);
-    if !splits(k, px[i], px[j]) {
-        return Verdict {
-            number: 10,
-            place: 0,
-        };
-    }
-    Verdict {
-        number: 0,
-        place: 0,
-    }
+    row_verdict(10, !splits(k, px[i], px[j]), 0)
 }
 
 // Where level k crosses the edgel of a code.
@@ -162,16 +137,9 @@ pub fn crossing_at(w: usize, h: usize, px: &[u8], k: u8, code: u32) -> Crossing
     ensures { λ r. ⌜ r ≡ crossingAnswer (picture w h (now (px .entry))) k code eight ⌝ }
 {
     let v = crossing_verdict(w, h, px, k, code);
-    let number = v.number;
-    let place = v.place;
-    if number != 0 {
+    if v.number != 0 {
         return Crossing {
-            answer: Answer {
-                number: number,
-                place: place,
-                words: 0,
-                lines: 0,
-            },
+            answer: answered(v, 0, 0),
             heading: 0,
             num: 0,
             den: 0,
@@ -188,12 +156,7 @@ pub fn crossing_at(w: usize, h: usize, px: &[u8], k: u8, code: u32) -> Crossing
     let p = code / 2;
     let c = w as u32;
     Crossing {
-        answer: Answer {
-            number: 0,
-            place: 0,
-            words: 0,
-            lines: 0,
-        },
+        answer: answered(v, 0, 0),
         heading: heading_number(flat, k < a),
         num: num,
         den: den,

@@ -1,106 +1,97 @@
--- `crossing::crossing_verdict` meets its contract. Assumes nothing.
-use mathlib.Core.Path.{sym, _∙_}
-use Prim.Native.Nat.{_*_}
+-- `crossing::crossing_verdict` meets its contract: 1 2 3, then 8, then 10. Assumes nothing.
+use mathlib.Core.Path.{refl, sym, ap, _∙_}
+use mathlib.Core.Bool.{not}
+use mathlib.Core.List.{[], _∷_}
 use native.Mathlib.Omega.{arith}
-use lib.ListN.{length}
-use borrow.Author.Tests.{eq-eqb, ne-eqb, not-true, not-false}
-use borrow.Author.Needs.{needs}
-use Rattle.matte.specs.Picture.{picture}
-use Rattle.refuse.proofs.Sides.{sides-in}
+use Rattle.matte.specs.Layout.{eight}
+use Rattle.matte.specs.Picture.{picture, high}
+use Rattle.edgel.specs.Edgel.{crossed}
+use Rattle.words.specs.Fit.{codeRow}
+use Rattle.refuse.specs.declared.Verdict.{Verdict}
+use Rattle.refuse.specs.Refusal.{row}
+use Rattle.refuse.specs.Shape.{levelRows}
+use Rattle.refuse.proofs.Rows.{stopped, gone-on, clean-fit}
+use Rattle.refuse.proofs.Sides.{levelled}
 use Rattle.crossing.proofs.Ends.{first-in, second-in}
-use Rattle.crossing.proofs.Told.{refuse-1, refuse-2, refuse-3, refuse-8, refuse-10, refuse-none, crossed-is}
+use Rattle.crossing.proofs.Told.{crossed-is}
+use borrow.Author.Needs.{needs}
 use Rattle.crossing.proofs.crossing_verdict.Statement.{statement}
 use Rattle.crossing.proofs.crossing_verdict.Tie as tie
 
-sides-fit-requires : tie.Need-sides-fit-requires
-sides-fit-requires c κs = search needs
+slice-aggregate-level-verdict : tie.Need-slice-aggregate-level-verdict
+slice-aggregate-level-verdict c = search needs
+
+level-verdict-requires : tie.Need-level-verdict-requires
+level-verdict-requires c κs = search needs
 
 returns : tie.Need-returns
-returns c =
-    let a = c .before .before .before .args in
-    let P = picture (a .w) (a .h) (a .px .now) in
-    refuse-1 P (a .k) (a .code) (sym (c .before .sides-fit .ensures) ∙ not-true _ (c .if1 .taken))
+returns c = let a = c .before .before .before .before .before .args in stopped (levelRows eight (picture (a .w) (a .h) (a .px .now)) (a .k ∷ [])) ((codeRow (a .w) (a .h) (a .code)) ∷ (row 10 (not (crossed (high (picture (a .w) (a .h) (a .px .now)) (a .k)) (a .w) (a .code)))) ∷ []) _ (c .before .before .level-verdict .ensures) (c .if1 .taken)
 
-area-requires : tie.Need-area-requires
-area-requires c κs = sides-in _ _ (sym (c .before .sides-fit .ensures) ∙ not-false _ (c .if1 .left))
+edgel-fits-requires : tie.Need-edgel-fits-requires
+edgel-fits-requires c κs =
+    let a = c .before .before .before .before .before .args in
+    levelled eight (picture (a .w) (a .h) (a .px .now)) (a .k ∷ []) (ap (λ (v : Verdict). v .number) (sym (c .before .before .level-verdict .ensures)) ∙ c .if1 .left) .0 .sides
+
+row-verdict-requires : tie.Need-row-verdict-requires
+row-verdict-requires c κs = search needs
 
 returns-2 : tie.Need-returns-2
 returns-2 c =
-    let a = c .before .before .before .before .before .args in
-    let P = picture (a .w) (a .h) (a .px .now) in
-    refuse-2 P (a .k) (a .code) (sym (c .before .before .before .sides-fit .ensures) ∙ not-false _ (c .before .before .if1 .left)) (ne-eqb (length (a .px .now)) (a .w * a .h) (λ e. omega (arith, c .if2 .taken, c .before .area .ensures .0)))
-
-slice-aggregate-levels-fit : tie.Need-slice-aggregate-levels-fit
-slice-aggregate-levels-fit c = search needs
-
-levels-fit-requires : tie.Need-levels-fit-requires
-levels-fit-requires c κs = search needs
-
-returns-3 : tie.Need-returns-3
-returns-3 c =
-    let a = c .before .before .before .before .before .before .before .before .args in
-    let P = picture (a .w) (a .h) (a .px .now) in
-    refuse-3 P (a .k) (a .code) (sym (c .before .before .before .before .before .before .sides-fit .ensures) ∙ not-false _ (c .before .before .before .before .before .if1 .left)) (eq-eqb (length (a .px .now)) (a .w * a .h) (omega (arith, c .before .before .before .if2 .left, c .before .before .before .before .area .ensures .0))) (sym (c .before .levels-fit .ensures) ∙ not-true _ (c .if3 .taken))
-
-edgel-fits-requires : tie.Need-edgel-fits-requires
-edgel-fits-requires c κs = sides-in _ _ (sym (c .before .before .before .before .before .before .sides-fit .ensures) ∙ not-false _ (c .before .before .before .before .before .if1 .left))
-
-returns-4 : tie.Need-returns-4
-returns-4 c =
-    let a = c .before .before .before .before .before .before .before .before .before .before .args in
-    let P = picture (a .w) (a .h) (a .px .now) in
-    refuse-8 P (a .k) (a .code) (sym (c .before .before .before .before .before .before .before .before .sides-fit .ensures) ∙ not-false _ (c .before .before .before .before .before .before .before .if1 .left)) (eq-eqb (length (a .px .now)) (a .w * a .h) (omega (arith, c .before .before .before .before .before .if2 .left, c .before .before .before .before .before .before .area .ensures .0))) (sym (c .before .before .before .levels-fit .ensures) ∙ not-false _ (c .before .before .if3 .left)) (sym (c .before .edgel-fits .ensures) ∙ not-true _ (c .if4 .taken))
+    let a = c .before .before .before .before .before .before .before .before .before .args in
+    gone-on (levelRows eight (picture (a .w) (a .h) (a .px .now)) (a .k ∷ [])) ((codeRow (a .w) (a .h) (a .code)) ∷ (row 10 (not (crossed (high (picture (a .w) (a .h) (a .px .now)) (a .k)) (a .w) (a .code)))) ∷ []) _ _ refl (c .before .before .before .before .before .before .level-verdict .ensures) (c .before .before .before .before .if1 .left) (stopped ((codeRow (a .w) (a .h) (a .code)) ∷ []) ((row 10 (not (crossed (high (picture (a .w) (a .h) (a .px .now)) (a .k)) (a .w) (a .code)))) ∷ []) _ (rw (c .before .before .before .edgel-fits .ensures) at (c .before .before .row-verdict .ensures)) (c .if2 .taken))
 
 cast-i : tie.Need-cast-i
 cast-i c = search needs
 
 other-end-requires : tie.Need-other-end-requires
-other-end-requires c κs = let a = c .before .before .before .before .before .before .before .before .before .before .args in sides-in (a .w) (a .h) (sym (c .before .before .before .before .before .before .before .before .sides-fit .ensures) ∙ not-false _ (c .before .before .before .before .before .before .before .if1 .left)) .w-most
+other-end-requires c κs =
+    let a = c .before .before .before .before .before .before .before .before .before .args in
+    let l = levelled eight (picture (a .w) (a .h) (a .px .now)) (a .k ∷ []) (ap (λ (v : Verdict). v .number) (sym (c .before .before .before .before .before .before .level-verdict .ensures)) ∙ c .before .before .before .before .if1 .left) .0 in
+    l .sides .w-most
 
 shared-slice-read-splits : tie.Need-shared-slice-read-splits
 shared-slice-read-splits c =
-    let a = c .before .before .before .before .before .before .before .before .before .before .before .before .args in
-    omega (arith, first-in (a .w) (a .h) (a .code) (sym (c .before .before .before .edgel-fits .ensures) ∙ not-false _ (c .before .before .if4 .left)), c .before .before .before .before .before .before .before .if2 .left, c .before .before .before .before .before .before .before .before .area .ensures .0)
+    let a = c .before .before .before .before .before .before .before .before .before .before .before .args in
+    let l = levelled eight (picture (a .w) (a .h) (a .px .now)) (a .k ∷ []) (ap (λ (v : Verdict). v .number) (sym (c .before .before .before .before .before .before .before .before .level-verdict .ensures)) ∙ c .before .before .before .before .before .before .if1 .left) .0 in
+    let u = (rw (c .before .before .before .before .before .edgel-fits .ensures) at (c .before .before .before .before .row-verdict .ensures)) in
+    let e = clean-fit 8 _ [] (λ z. omega arith) (ap (λ (v : Verdict). v .number) (sym u) ∙ c .before .before .if2 .left) .0 in
+    omega (arith, first-in (a .w) (a .h) (a .code) e, l .whole)
 
 shared-slice-read-splits-2 : tie.Need-shared-slice-read-splits-2
 shared-slice-read-splits-2 c =
-    let a = c .before .before .before .before .before .before .before .before .before .before .before .before .before .args in
-    omega (arith, second-in (a .w) (a .h) (a .code) (sym (c .before .before .before .before .edgel-fits .ensures) ∙ not-false _ (c .before .before .before .if4 .left)), c .before .before .other-end .ensures, c .before .before .before .before .before .before .before .before .if2 .left, c .before .before .before .before .before .before .before .before .before .area .ensures .0)
+    let a = c .before .before .before .before .before .before .before .before .before .before .before .before .args in
+    let l = levelled eight (picture (a .w) (a .h) (a .px .now)) (a .k ∷ []) (ap (λ (v : Verdict). v .number) (sym (c .before .before .before .before .before .before .before .before .before .level-verdict .ensures)) ∙ c .before .before .before .before .before .before .before .if1 .left) .0 in
+    let u = (rw (c .before .before .before .before .before .before .edgel-fits .ensures) at (c .before .before .before .before .before .row-verdict .ensures)) in
+    let e = clean-fit 8 _ [] (λ z. omega arith) (ap (λ (v : Verdict). v .number) (sym u) ∙ c .before .before .before .if2 .left) .0 in
+    omega (arith, second-in (a .w) (a .h) (a .code) e, c .before .before .other-end .ensures, l .whole)
 
 splits-requires : tie.Need-splits-requires
 splits-requires c κs = search needs
 
-returns-5 : tie.Need-returns-5
-returns-5 c =
-    let a = c .before .before .before .before .before .before .before .before .before .before .before .before .before .before .before .args in
-    let P = picture (a .w) (a .h) (a .px .now) in
-    refuse-10 P (a .k) (a .code) (sym (c .before .before .before .before .before .before .before .before .before .before .before .before .before .sides-fit .ensures) ∙ not-false _ (c .before .before .before .before .before .before .before .before .before .before .before .before .if1 .left)) (eq-eqb (length (a .px .now)) (a .w * a .h) (omega (arith, c .before .before .before .before .before .before .before .before .before .before .if2 .left, c .before .before .before .before .before .before .before .before .before .before .before .area .ensures .0))) (sym (c .before .before .before .before .before .before .before .before .levels-fit .ensures) ∙ not-false _ (c .before .before .before .before .before .before .before .if3 .left)) (sym (c .before .before .before .before .before .before .edgel-fits .ensures) ∙ not-false _ (c .before .before .before .before .before .if4 .left))
-    (sym (crossed-is P (a .k) (a .code) _ (c .before .before .before .before .other-end .ensures)) ∙ sym (c .before .splits .ensures) ∙ not-true _ (c .if5 .taken))
+row-verdict-requires-2 : tie.Need-row-verdict-requires-2
+row-verdict-requires-2 c κs = search needs
 
-returns-6 : tie.Need-returns-6
-returns-6 c =
-    let a = c .before .before .before .before .before .before .before .before .before .before .before .before .before .before .before .args in
-    let P = picture (a .w) (a .h) (a .px .now) in
-    refuse-none P (a .k) (a .code) (sym (c .before .before .before .before .before .before .before .before .before .before .before .before .before .sides-fit .ensures) ∙ not-false _ (c .before .before .before .before .before .before .before .before .before .before .before .before .if1 .left)) (eq-eqb (length (a .px .now)) (a .w * a .h) (omega (arith, c .before .before .before .before .before .before .before .before .before .before .if2 .left, c .before .before .before .before .before .before .before .before .before .before .before .area .ensures .0))) (sym (c .before .before .before .before .before .before .before .before .levels-fit .ensures) ∙ not-false _ (c .before .before .before .before .before .before .before .if3 .left)) (sym (c .before .before .before .before .before .before .edgel-fits .ensures) ∙ not-false _ (c .before .before .before .before .before .if4 .left))
-    (sym (crossed-is P (a .k) (a .code) _ (c .before .before .before .before .other-end .ensures)) ∙ sym (c .before .splits .ensures) ∙ not-false _ (c .if5 .left))
+returns-3 : tie.Need-returns-3
+returns-3 c =
+    let a = c .before .before .before .before .before .before .before .before .before .before .before .before .before .before .args in
+    let x = c .before .splits .ensures ∙ crossed-is (picture (a .w) (a .h) (a .px .now)) (a .k) (a .code) _ (c .before .before .before .before .other-end .ensures) in
+    gone-on (levelRows eight (picture (a .w) (a .h) (a .px .now)) (a .k ∷ [])) ((codeRow (a .w) (a .h) (a .code)) ∷ (row 10 (not (crossed (high (picture (a .w) (a .h) (a .px .now)) (a .k)) (a .w) (a .code)))) ∷ []) _ _ refl (c .before .before .before .before .before .before .before .before .before .before .before .level-verdict .ensures) (c .before .before .before .before .before .before .before .before .before .if1 .left)
+    (gone-on ((codeRow (a .w) (a .h) (a .code)) ∷ []) ((row 10 (not (crossed (high (picture (a .w) (a .h) (a .px .now)) (a .k)) (a .w) (a .code)))) ∷ []) _ _ refl (rw (c .before .before .before .before .before .before .before .before .edgel-fits .ensures) at (c .before .before .before .before .before .before .before .row-verdict .ensures)) (c .before .before .before .before .before .if2 .left) (rw x at (c .row-verdict2 .ensures)))
 
 pub crossing-verdict-spec : {M : Type 1} → statement M
 crossing-verdict-spec =
     tie.close
     (tie.spec
-    sides-fit-requires
+    slice-aggregate-level-verdict
+    level-verdict-requires
     returns
-    area-requires
-    returns-2
-    slice-aggregate-levels-fit
-    levels-fit-requires
-    returns-3
     edgel-fits-requires
-    returns-4
+    row-verdict-requires
+    returns-2
     cast-i
     other-end-requires
     shared-slice-read-splits
     shared-slice-read-splits-2
     splits-requires
-    returns-5
-    returns-6)
+    row-verdict-requires-2
+    returns-3)

@@ -28,9 +28,11 @@ row-verdict-requires c κs = search needs
 returns-2 : tie.Need-returns-2
 returns-2 c =
     let a = c .before .before .before .before .before .before .before .before .before .before .args in
-    let g = grounded eight (picture (a .w) (a .h) (a .px .now)) (a .levels .now) (ap (λ (v : Verdict). v .number) (sym (c .before .before .before .before .before .ground-verdict .ensures)) ∙ c .before .before .before .if1 .left) in
-    (gone-on (groundRows eight (picture (a .w) (a .h) (a .px .now)) (a .levels .now)) ((workRow (picture (a .w) (a .h) (a .px .now)) (a .work .now)) ∷ (wordsRow (a .words .now) (length (listed eight (picture (a .w) (a .h) (a .px .now)) (a .levels .now)))) ∷ []) _ _ refl (c .before .before .before .before .before .ground-verdict .ensures) (c .before .before .before .if1 .left)
-    (stopped ((workRow (picture (a .w) (a .h) (a .px .now)) (a .work .now)) ∷ []) ((wordsRow (a .words .now) (length (listed eight (picture (a .w) (a .h) (a .px .now)) (a .levels .now)))) ∷ []) _ (rw (g .0 .whole) at (c .before .before .row-verdict .ensures)) (c .if2 .taken)), λ z. absurd (c .if2 .taken z))
+    let g = grounded eight (picture (a .w) (a .h) (a .px .now)) (a .levels .now) (ap (λ (v : Verdict). v .number) (sym (c .before .before .before .before .before .ground-verdict .ensures)) ∙ c .before .before .before .if1 .left) in (
+      gone-on (groundRows eight (picture (a .w) (a .h) (a .px .now)) (a .levels .now)) ((workRow (picture (a .w) (a .h) (a .px .now)) (a .work .now)) ∷ (wordsRow (a .words .now) (length (listed eight (picture (a .w) (a .h) (a .px .now)) (a .levels .now)))) ∷ []) _ _ refl (c .before .before .before .before .before .ground-verdict .ensures) (c .before .before .before .if1 .left)
+          (stopped ((workRow (picture (a .w) (a .h) (a .px .now)) (a .work .now)) ∷ []) ((wordsRow (a .words .now) (length (listed eight (picture (a .w) (a .h) (a .px .now)) (a .levels .now)))) ∷ []) _ (rw (g .0 .whole) at (c .before .before .row-verdict .ensures)) (c .if2 .taken)),
+      λ z. absurd (c .if2 .taken z),
+    )
 
 count-words-requires : tie.Need-count-words-requires
 count-words-requires c κs =
@@ -44,9 +46,11 @@ row-verdict-requires-2 c κs = search needs
 returns-3 : tie.Need-returns-3
 returns-3 c =
     let a = c .before .before .before .before .before .before .before .before .before .before .before .before .args in
-    let g = grounded eight (picture (a .w) (a .h) (a .px .now)) (a .levels .now) (ap (λ (v : Verdict). v .number) (sym (c .before .before .before .before .before .before .before .ground-verdict .ensures)) ∙ c .before .before .before .before .before .if1 .left) in
-    (gone-on (groundRows eight (picture (a .w) (a .h) (a .px .now)) (a .levels .now)) ((workRow (picture (a .w) (a .h) (a .px .now)) (a .work .now)) ∷ (wordsRow (a .words .now) (length (listed eight (picture (a .w) (a .h) (a .px .now)) (a .levels .now)))) ∷ []) _ _ refl (c .before .before .before .before .before .before .before .ground-verdict .ensures) (c .before .before .before .before .before .if1 .left)
-    (gone-on ((workRow (picture (a .w) (a .h) (a .px .now)) (a .work .now)) ∷ []) ((wordsRow (a .words .now) (length (listed eight (picture (a .w) (a .h) (a .px .now)) (a .levels .now)))) ∷ []) _ _ refl (rw (g .0 .whole) at (c .before .before .before .before .row-verdict .ensures)) (c .before .before .if2 .left) (rw (c .before .count-words .ensures) at (c .row-verdict2 .ensures))), λ z. c .before .count-words .ensures)
+    let g = grounded eight (picture (a .w) (a .h) (a .px .now)) (a .levels .now) (ap (λ (v : Verdict). v .number) (sym (c .before .before .before .before .before .before .before .ground-verdict .ensures)) ∙ c .before .before .before .before .before .if1 .left) in (
+      gone-on (groundRows eight (picture (a .w) (a .h) (a .px .now)) (a .levels .now)) ((workRow (picture (a .w) (a .h) (a .px .now)) (a .work .now)) ∷ (wordsRow (a .words .now) (length (listed eight (picture (a .w) (a .h) (a .px .now)) (a .levels .now)))) ∷ []) _ _ refl (c .before .before .before .before .before .before .before .ground-verdict .ensures) (c .before .before .before .before .before .if1 .left)
+          (gone-on ((workRow (picture (a .w) (a .h) (a .px .now)) (a .work .now)) ∷ []) ((wordsRow (a .words .now) (length (listed eight (picture (a .w) (a .h) (a .px .now)) (a .levels .now)))) ∷ []) _ _ refl (rw (g .0 .whole) at (c .before .before .before .before .row-verdict .ensures)) (c .before .before .if2 .left) (rw (c .before .count-words .ensures) at (c .row-verdict2 .ensures))),
+      λ z. c .before .count-words .ensures,
+    )
 
 pub list-check-spec : {M : Type 1} → statement M
 list-check-spec =

@@ -1,4 +1,3 @@
-pub mod Five
 pub mod Chain
 pub mod Words
 pub mod Blocks

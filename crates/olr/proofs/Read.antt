@@ -1,31 +1,30 @@
--- The refusals of reading, one row after the other. Assumes nothing.
--- Definitions: `Readable` what a call that is not refused has.
--- Main laws: `read-12`, `read-13`, `read-14`, `read-8`, `read-6`, `read-0` the verdict by its tests; `readable`, `accepted` what a verdict of 0 says, `read-done` and back; `read-refused`, `read-taken` the call;
+-- The refusals of reading, and the call. Assumes nothing.
+-- Definitions: `Readable` what a call that is not refused has; `r12` to `r6` the rows.
+-- Main laws: `whole-blocks`, `readable`, `accepted` what a verdict of 0 says, `read-done` and back; `read-refused`, `read-taken` the call;
 --   `read-long` a file that is not refused has a block.
 use mathlib.Core.Path.{_≡_, refl, sym, ap, ap₂, _∙_}
 use mathlib.Core.Bool.{Bool, true, false, not, _||_}
-use mathlib.Core.List.{List, _++_}
+use mathlib.Core.List.{List, [], _∷_, _++_}
 use Prim.Native.Nat.{ℕ, _-_, _%_, _≤_, _<_}
 use native.Mathlib.Omega.{arith}
 use lib.Dec.{eqb, ltb}
 use lib.ListN.{length, drop, replicate}
-use borrow.Author.Tests.{lt-ltb, le-ltb, ltb-false, eq-eqb, ne-eqb, eqb-true, eqb-false, not-false}
+use borrow.Author.Tests.{le-ltb, ltb-false, eq-eqb, ne-eqb, eqb-true, eqb-false, not-false}
 use Rattle.tally.specs.Tally.{tally, firstAt, firstFrom}
 use Rattle.tally.proofs.Test.{no}
 use Rattle.refuse.specs.declared.Answer.{Answer}
 use Rattle.refuse.specs.declared.Verdict.{Verdict}
 use Rattle.matte.specs.Layout.{eight}
-use Rattle.refuse.specs.Refusal.{Row, row, rowAt, wordsRow, afterwards}
-use Rattle.refuse.proofs.Rows.{done-answer, refused-answer, done-after, refused-after}
+use Rattle.refuse.specs.Refusal.{Row, row, rowAt, verdict, wordsRow, answer, afterwards}
+use Rattle.refuse.proofs.Rows.{passed, fit, clean, clean-fit, parted, done-answer, refused-answer, done-after, refused-after}
 use Rattle.edgel.specs.Word.{flagged}
 use Rattle.words.specs.Fit.{badWord, wordsFitRow}
 use Rattle.olr.specs.Read.{blocks, checkFits, fileWidth, fileHeight, fileBorder, fileCount, fileWordCount, fileLevels, fileWords, laidOut, readVerdict, readAnswer, readWords}
 use Rattle.olr.specs.Held.{stored}
-use Rattle.olr.proofs.Five.{first-0, first-1, first-2, first-3, first-4, first-5, passed-all}
 use Rattle.olr.proofs.Taken.{words-length}
 
 -- not empty, and whole blocks
-abbrev lengthBad : List ℕ → Bool
+abbrev pub lengthBad : List ℕ → Bool
 lengthBad f = eqb (length f) 0 || not (eqb (length f % 512) 0)
 
 module _ (f : List ℕ) where
@@ -43,88 +42,52 @@ module _ (f : List ℕ) where
     pub good : fileWordCount f ≤ badAt
     pub roomy : fileWordCount f ≤ length out
 
-  bad-1 : length f ≡ 0 → lengthBad f ≡ true
-  bad-1 e = ap (λ (b : Bool). b || not (eqb (length f % 512) 0)) (eq-eqb (length f) 0 e)
-
-  or-true : (b : Bool) → (b || true) ≡ true
-  or-true true = refl
-  or-true false = refl
-
-  bad-2 : (length f % 512 ≡ 0 → ⊥) → lengthBad f ≡ true
-  bad-2 e = ap (λ (b : Bool). eqb (length f) 0 || not b) (ne-eqb (length f % 512) 0 e) ∙ or-true (eqb (length f) 0)
-
-  bad-no : (length f ≡ 0 → ⊥) → length f % 512 ≡ 0 → lengthBad f ≡ false
+  bad-no : 0 < length f → length f % 512 ≡ 0 → lengthBad f ≡ false
   bad-no e g =
-      ap (λ (b : Bool). b || not (eqb (length f % 512) 0)) (ne-eqb (length f) 0 e) ∙ ap not (eq-eqb (length f % 512) 0 g)
+      ap (λ (b : Bool). b || not (eqb (length f % 512) 0)) (ne-eqb (length f) 0 (λ z. omega (arith, e))) ∙ ap not (eq-eqb (length f % 512) 0 g)
 
   or-no : (a b : Bool) → (a || b) ≡ false → (a ≡ false) × (b ≡ false)
   or-no true b e = no refl e
   or-no false b e = (refl, e)
 
   module _ (out : List ℕ) where
-    abbrev r1 : Row
-    r1 = row 12 (lengthBad f)
+    abbrev pub r12 : Row
+    r12 = row 12 (lengthBad f)
 
-    abbrev r2 : Row
-    r2 = rowAt 13 (ltb badBlock (blocks f)) badBlock
+    abbrev pub r13 : Row
+    r13 = rowAt 13 (ltb badBlock (blocks f)) badBlock
 
-    abbrev r3 : Row
-    r3 = row 14 (not (laidOut f))
+    abbrev pub r14 : Row
+    r14 = row 14 (not (laidOut f))
 
-    abbrev r4 : Row
-    r4 = wordsFitRow eight (fileWidth f) (fileHeight f) (fileLevels f) (fileWords f)
+    abbrev pub r8 : Row
+    r8 = wordsFitRow eight (fileWidth f) (fileHeight f) (fileLevels f) (fileWords f)
 
-    abbrev r5 : Row
-    r5 = wordsRow out (fileWordCount f)
+    abbrev pub r6 : Row
+    r6 = wordsRow out (fileWordCount f)
 
-    pub read-12a : length f ≡ 0 → record { number = 12; place = 0 } ≡ readVerdict f out
-    read-12a e = first-1 r1 r2 r3 r4 r5 (bad-1 e)
-
-    pub read-12b : (length f % 512 ≡ 0 → ⊥) → record { number = 12; place = 0 } ≡ readVerdict f out
-    read-12b e = first-1 r1 r2 r3 r4 r5 (bad-2 e)
-
-    module _ (a : length f ≡ 0 → ⊥) (b : length f % 512 ≡ 0) (i : ℕ) (c : i ≡ badBlock) where
-      pub read-13 : i < blocks f → record { number = 13; place = i } ≡ readVerdict f out
-      read-13 d =
-          ap (λ (j : ℕ). record { number = 13; place = j }) c
-          ∙ first-2 r1 r2 r3 r4 r5 (bad-no a b) (ap (λ (j : ℕ). ltb j (blocks f)) (sym c) ∙ lt-ltb _ _ d)
-
-      module _ (d : blocks f ≤ i) where
-        right : r2 .given ≡ false
-        right = ap (λ (j : ℕ). ltb j (blocks f)) (sym c) ∙ le-ltb _ _ d
-
-        pub read-14 : laidOut f ≡ false → record { number = 14; place = 0 } ≡ readVerdict f out
-        read-14 e = first-3 r1 r2 r3 r4 r5 (bad-no a b) right (ap not e)
-
-        module _ (e : laidOut f ≡ true) (k n : ℕ) (g : k ≡ badAt) (m : n ≡ fileWordCount f) where
-          told : r4 .given ≡ ltb k n
-          told = ap (λ (j : ℕ). ltb j (length (fileWords f))) (sym g) ∙ ap (ltb k) (words-length f ∙ sym m)
-
-          pub read-8 : k < n → record { number = 8; place = k } ≡ readVerdict f out
-          read-8 h = ap (λ (j : ℕ). record { number = 8; place = j }) g ∙ first-4 r1 r2 r3 r4 r5 (bad-no a b) right (ap not e) (told ∙ lt-ltb _ _ h)
-
-          module _ (h : n ≤ k) where
-            pub read-6 : length out < n → record { number = 6; place = n } ≡ readVerdict f out
-            read-6 o =
-                ap (λ (j : ℕ). record { number = 6; place = j }) m
-                ∙ first-5 r1 r2 r3 r4 r5 (bad-no a b) right (ap not e) (told ∙ le-ltb _ _ h) (ap (ltb (length out)) (sym m) ∙ lt-ltb _ _ o)
-
-            pub read-0 : n ≤ length out → record { number = 0; place = 0 } ≡ readVerdict f out
-            read-0 o =
-                first-0 r1 r2 r3 r4 r5
-                (record { one = bad-no a b; two = right; three = ap not e; four = told ∙ le-ltb _ _ h; five = ap (ltb (length out)) (sym m) ∙ le-ltb _ _ o })
+    -- a file that passes the first row has whole blocks
+    pub whole-blocks : verdict (r12 ∷ []) .number ≡ 0 → (0 < length f) × (length f % 512 ≡ 0)
+    whole-blocks e =
+        let a = clean r12 [] (λ z. omega arith) e in
+        let o = or-no (eqb (length f) 0) (not (eqb (length f % 512) 0)) (a .0) in
+        (omega (arith, eqb-false (length f) 0 (o .0)), eqb-true _ _ (not-false _ (o .1)))
 
     pub readable : readVerdict f out .number ≡ 0 → Readable out
     readable e =
-        let P = passed-all r1 r2 r3 r4 r5 (omega arith) (omega arith) (omega arith) (omega arith) (omega arith) e in
-        let o = or-no (eqb (length f) 0) (not (eqb (length f % 512) 0)) (P .one) in
+        let a = parted (r12 ∷ []) (r13 ∷ r14 ∷ r8 ∷ r6 ∷ []) refl e in
+        let b = clean r13 (r14 ∷ r8 ∷ r6 ∷ []) (λ z. omega arith) (a .1) in
+        let c = clean-fit 14 (laidOut f) (r8 ∷ r6 ∷ []) (λ z. omega arith) (b .1) in
+        let d = clean r8 (r6 ∷ []) (λ z. omega arith) (c .1) in
+        let g = clean r6 [] (λ z. omega arith) (d .1) in
+        let o = whole-blocks (a .0) in
         record {
-          some = omega (arith, eqb-false (length f) 0 (o .0));
-          whole = eqb-true _ _ (not-false _ (o .1));
-          checked = ltb-false _ _ (P .two);
-          layout = not-false _ (P .three);
-          good = omega (arith, ltb-false badAt (length (fileWords f)) (P .four), words-length f);
-          roomy = ltb-false _ _ (P .five);
+          some = o .0;
+          whole = o .1;
+          checked = ltb-false _ _ (b .0);
+          layout = c .0;
+          good = omega (arith, ltb-false badAt (length (fileWords f)) (d .0), words-length f);
+          roomy = ltb-false _ _ (g .0);
         }
 
     pub accepted : (t : Verdict) → t ≡ readVerdict f out → t .number ≡ 0 → Readable out
@@ -133,23 +96,27 @@ module _ (f : List ℕ) where
     pub read-done : Readable out → readVerdict f out .number ≡ 0
     read-done R =
         ap (λ (t : Verdict). t .number)
-        (sym (read-0 (λ z. omega (arith, R .some)) (R .whole) badBlock refl (R .checked) (R .layout) badAt (fileWordCount f) refl refl (R .good) (R .roomy)))
+        (passed r12 (r13 ∷ r14 ∷ r8 ∷ r6 ∷ []) (bad-no (R .some) (R .whole))
+        ∙ passed r13 (r14 ∷ r8 ∷ r6 ∷ []) (le-ltb _ _ (R .checked))
+        ∙ fit 14 (laidOut f) (r8 ∷ r6 ∷ []) (R .layout)
+        ∙ passed r8 (r6 ∷ []) (le-ltb badAt (length (fileWords f)) (omega (arith, R .good, words-length f)))
+        ∙ passed r6 [] (le-ltb _ _ (R .roomy)))
 
     -- the call, refused
-    pub read-refused : (t : Verdict) → t ≡ readVerdict f out → (t .number ≡ 0 → ⊥)
+    pub read-refused : (t : Verdict) → t ≡ readVerdict f out → (t .number ≡ 0 → ⊥) → (r : Answer) → r ≡ answer t 0 0
         → (record {
-          answer = record { number = t .number; place = t .place; words = 0; lines = 0 };
+          answer = r;
           width = 0;
           height = 0;
           border = 0;
           count = 0;
           levels = replicate 255 0;
         } ≡ readAnswer f out) × (out ≡ readWords f out)
-    read-refused t e z =
+    read-refused t e z r q =
         let T = readVerdict f out in
-        let y : T .number ≡ 0 → ⊥ = λ q. z (ap (λ (u : Verdict). u .number) e ∙ q) in
-        let a : _≡_ {A = Answer} (record { number = t .number; place = t .place; words = 0; lines = 0 }) (readAnswer f out .answer) =
-        ap (λ (u : Verdict). record { number = u .number; place = u .place; words = 0; lines = 0 }) e ∙ sym (refused-answer T (fileWordCount f) (tally (flagged eight) (fileWords f)) y) in
+        let y : T .number ≡ 0 → ⊥ = λ x. z (ap (λ (u : Verdict). u .number) e ∙ x) in
+        let a : r ≡ readAnswer f out .answer =
+        q ∙ ap (λ (u : Verdict). answer u 0 0) e ∙ refused-answer T 0 0 y ∙ sym (refused-answer T (fileWordCount f) (tally (flagged eight) (fileWords f)) y) in
         let n : (d : ℕ) → 0 ≡ afterwards T 0 d = λ d. sym (refused-after T 0 d y) in
         let l : replicate 255 0 ≡ afterwards T (replicate 255 0) (fileLevels f ++ replicate (255 - fileCount f) 0) =
         sym (refused-after T (replicate 255 0) (fileLevels f ++ replicate (255 - fileCount f) 0) y) in (

@@ -8,7 +8,8 @@ use lib.ListN.{length, take, drop}
 use Rattle.refuse.specs.declared.Answer.{Answer}
 use Rattle.refuse.specs.declared.Verdict.{Verdict}
 use Rattle.matte.specs.Layout.{eight}
-use Rattle.refuse.specs.Refusal.{Row, verdict, row, rowAt, answer, afterwards, sidesRow, levelsRow}
+use Rattle.refuse.specs.Refusal.{Row, verdict, row, rowAt, answer, afterwards}
+use Rattle.refuse.specs.Shape.{sizeRows}
 use Rattle.words.specs.Fit.{wordsFitRow}
 use Rattle.block.specs.Block.{le2, le4, pad, block}
 
@@ -47,13 +48,7 @@ module _ (w h v : ℕ) (ks ws : List ℕ) where
   module _ (room : List ℕ) where
     -- 1 3 16 8 15 (01, Numbers for a refused call)
     abbrev pub writeRows : List Row
-    writeRows =
-        sidesRow w h
-        ∷ levelsRow eight ks
-        ∷ row 16 (ltb limit (length ws))
-        ∷ wordsFitRow eight w h ks ws
-        ∷ rowAt 15 (ltb (length room) fileLength) fileLength
-        ∷ []
+    writeRows = sizeRows eight w h ks ++ (row 16 (ltb limit (length ws)) ∷ wordsFitRow eight w h ks ws ∷ rowAt 15 (ltb (length room) fileLength) fileLength ∷ [])
 
     abbrev pub writeVerdict : Verdict
     writeVerdict = verdict writeRows

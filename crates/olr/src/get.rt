@@ -2,7 +2,6 @@
 use crate::Stored;
 use crate::put::block_end;
 use crate::put::blocks_for;
-use crate::put::verdict_of;
 use block::check_fits;
 use block::check_two;
 use block::num2_at;
@@ -11,6 +10,7 @@ use edgel::flagged;
 use refuse::Answer;
 use refuse::Verdict;
 use refuse::levels_fit;
+use refuse::row_verdict;
 use refuse::sides_fit;
 use words::grid_of;
 use words::level_table;
@@ -240,19 +240,20 @@ pub fn stored_of(file: &[u8], n: usize, lines: usize) -> Stored
 pub fn read_verdict(file: &[u8], words: &[u32]) -> Verdict
     ensures { λ r. ⌜ r ≡ readVerdict (now (file .entry)) (now (words .entry)) ⌝ }
 {
-    if file.len() == 0 {
-        return verdict_of(12, 0);
+    let empty = file.len() == 0;
+    let cut = row_verdict(12, empty | (file.len() % 512 != 0), 0);
+    if cut.number != 0 {
+        return cut;
     }
-    if file.len() % 512 != 0 {
-        return verdict_of(12, 0);
-    }
-    let bad = first_bad_block(file);
+    let b = first_bad_block(file);
     let laid = laid_out(file);
-    if bad < file.len() / 512 {
-        return verdict_of(13, bad);
+    let check = row_verdict(13, b < file.len() / 512, b);
+    if check.number != 0 {
+        return check;
     }
-    if !laid {
-        return verdict_of(14, 0);
+    let layout = row_verdict(14, !laid, 0);
+    if layout.number != 0 {
+        return layout;
     }
     let n = num4_at(file, 12) as usize;
     let k = first_bad(
@@ -261,11 +262,9 @@ pub fn read_verdict(file: &[u8], words: &[u32]) -> Verdict
         num2_at(file, 6) as usize,
         n,
     );
-    if k < n {
-        return verdict_of(8, k);
+    let fit = row_verdict(8, k < n, k);
+    if fit.number != 0 {
+        return fit;
     }
-    if words.len() < n {
-        return verdict_of(6, n);
-    }
-    verdict_of(0, 0)
+    row_verdict(6, words.len() < n, n)
 }

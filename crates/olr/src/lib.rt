@@ -10,6 +10,7 @@ use put::put_head;
 use put::put_words;
 use put::write_verdict;
 use refuse::Answer;
+use refuse::answered;
 ghost use mathlib.Core.Path.{_≡_};
 ghost use Rattle.olr.specs.File.{writeAnswer, writeRoom};
 ghost use Rattle.olr.specs.Read.{readAnswer, readWords};
@@ -39,21 +40,11 @@ pub fn write_file(
 {
     let t = write_verdict(w, h, levels, words, &file[..]);
     if t.number != 0 {
-        return Answer {
-            number: t.number,
-            place: t.place,
-            words: 0,
-            lines: 0,
-        };
+        return answered(t, 0, 0);
     }
     put_head(&mut file[0..512], w, h, v, levels, words.len());
     put_words(file, words);
-    Answer {
-        number: 0,
-        place: 0,
-        words: 0,
-        lines: 0,
-    }
+    answered(t, 0, 0)
 }
 
 // Reads a file: its words into the first places, and what else it says.
@@ -63,15 +54,9 @@ pub fn read_file(file: &[u8], words: &mut [u32]) -> Stored
 {
     let t = read_verdict(file, &words[..]);
     if t.number != 0 {
-        let a = Answer {
-            number: t.number,
-            place: t.place,
-            words: 0,
-            lines: 0,
-        };
         let none = [0u8; 255];
         return Stored {
-            answer: a,
+            answer: answered(t, 0, 0),
             width: 0,
             height: 0,
             border: 0,

@@ -4,8 +4,8 @@ use block::close_two;
 use block::put2;
 use block::put4;
 use refuse::Verdict;
-use refuse::levels_fit;
-use refuse::sides_fit;
+use refuse::row_verdict;
+use refuse::size_verdict;
 use words::first_bad_word;
 ghost use mathlib.Core.Path.{_≡_};
 ghost use mathlib.Core.List.{[], _∷_, _++_};
@@ -13,16 +13,6 @@ ghost use Prim.Native.Nat.{_+_, _-_, _*_, _≤_, _<_, min};
 ghost use lib.ListN.{length, take, drop};
 ghost use Rattle.block.specs.Block.{le2, le4, pad, block};
 ghost use Rattle.olr.specs.File.{blocksFor, letters, header, wordBytes, wordBlocks, writeVerdict};
-
-// A refusal's number and place.
-pub fn verdict_of(number: u32, place: usize) -> Verdict
-    ensures { λ r. ⌜ r ≡ record { number = number; place = place } ⌝ }
-{
-    Verdict {
-        number: number,
-        place: place,
-    }
-}
 
 // How many blocks n words take.
 pub fn blocks_for(n: usize) -> usize
@@ -36,24 +26,21 @@ pub fn blocks_for(n: usize) -> usize
 pub fn write_verdict(w: usize, h: usize, levels: &[u8], words: &[u32], file: &[u8]) -> Verdict
     ensures { λ r. ⌜ r ≡ writeVerdict w h 0 (now (levels .entry)) (now (words .entry)) (now (file .entry)) ⌝ }
 {
-    if !sides_fit(w, h) {
-        return verdict_of(1, 0);
+    let size = size_verdict(w, h, levels);
+    if size.number != 0 {
+        return size;
     }
-    if !levels_fit(levels) {
-        return verdict_of(3, 0);
-    }
-    if 16777215 < words.len() {
-        return verdict_of(16, 0);
+    let many = row_verdict(16, 16777215 < words.len(), 0);
+    if many.number != 0 {
+        return many;
     }
     let bad = first_bad_word(w, h, levels, words);
-    if bad < words.len() {
-        return verdict_of(8, bad);
+    let fit = row_verdict(8, bad < words.len(), bad);
+    if fit.number != 0 {
+        return fit;
     }
     let needed = 512 * (1 + blocks_for(words.len()));
-    if file.len() < needed {
-        return verdict_of(15, needed);
-    }
-    verdict_of(0, 0)
+    row_verdict(15, file.len() < needed, needed)
 }
 
 // Letters and sides, 8 bytes.

@@ -11,13 +11,16 @@ use Rattle.olr.proofs.read_file.Tie as tie
 read-verdict-requires : tie.Need-read-verdict-requires
 read-verdict-requires c κs = search needs
 
+answered-requires : tie.Need-answered-requires
+answered-requires c κs = search needs
+
 same-length : tie.Need-same-length
 same-length c = search needs
 
 returns : tie.Need-returns
 returns c =
-    let a = c .before .before .before .before .before .before .args in
-    read-refused (a .file .now) (a .words .now) (c .before .before .read-verdict .result) (c .before .before .read-verdict .ensures) (c .if1 .taken)
+    let a = c .before .before .before .before .before .before .before .args in
+    read-refused (a .file .now) (a .words .now) (c .before .before .before .read-verdict .result) (c .before .before .before .read-verdict .ensures) (c .before .if1 .taken) _ (c .answered .ensures)
 
 num4-at-requires : tie.Need-num4-at-requires
 num4-at-requires c κs =
@@ -58,6 +61,7 @@ read-file-spec =
     tie.close
     (tie.spec
     read-verdict-requires
+    answered-requires
     same-length
     returns
     num4-at-requires

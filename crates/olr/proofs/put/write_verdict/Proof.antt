@@ -1,75 +1,52 @@
--- `olr::put::write_verdict` meets its contract: one row after the other. Assumes nothing.
-use mathlib.Core.Path.{_≡_, sym, ap, _∙_}
-use Prim.Native.Nat.{ℕ, _+_, _*_}
-use borrow.Author.Tests.{not-true, not-false}
-use Rattle.refuse.proofs.Sides.{sides-in}
-use Rattle.olr.specs.File.{fileLength}
-use Rattle.olr.proofs.Write.{write-1, write-3, write-16, write-8, write-15, write-0}
+-- `olr::put::write_verdict` meets its contract: 1 3, then 16, 8 and 15. Assumes nothing.
+use mathlib.Core.Path.{refl, sym, ap, _∙_}
+use mathlib.Core.List.{[], _∷_}
+use native.Mathlib.Omega.{arith}
+use lib.Dec.{ltb}
+use lib.ListN.{length}
+use borrow.Author.Tests.{ltb-false}
+use Rattle.matte.specs.Layout.{eight}
+use Rattle.refuse.specs.declared.Verdict.{Verdict}
+use Rattle.refuse.specs.Refusal.{row, rowAt}
+use Rattle.refuse.specs.Shape.{sizeRows}
+use Rattle.refuse.proofs.Rows.{stopped, gone-on, clean}
+use Rattle.refuse.proofs.Sides.{of-size}
+use Rattle.words.specs.Fit.{wordsFitRow}
+use Rattle.olr.specs.File.{limit, fileLength}
 use borrow.Author.Needs.{needs}
 use Rattle.olr.proofs.put.write_verdict.Statement.{statement}
 use Rattle.olr.proofs.put.write_verdict.Tie as tie
 
-sides-fit-requires : tie.Need-sides-fit-requires
-sides-fit-requires c κs = search needs
-
-verdict-of-requires : tie.Need-verdict-of-requires
-verdict-of-requires c κs = search needs
+size-verdict-requires : tie.Need-size-verdict-requires
+size-verdict-requires c κs = search needs
 
 returns : tie.Need-returns
-returns c =
-    let d = c .before in
-    c .verdict-of .ensures
-    ∙ (let a = d .before .before .before .before .before .args in write-1 (a .w) (a .h) 0 (a .levels .now) (a .words .now) (a .file .now) (sym (d .before .sides-fit .ensures) ∙ not-true _ (d .if1 .taken)))
+returns c = let a = c .before .before .before .before .before .before .args in stopped (sizeRows eight (a .w) (a .h) (a .levels .now)) ((row 16 (ltb limit (length (a .words .now)))) ∷ (wordsFitRow eight (a .w) (a .h) (a .levels .now) (a .words .now)) ∷ (rowAt 15 (ltb (length (a .file .now)) (fileLength (a .w) (a .h) 0 (a .levels .now) (a .words .now))) (fileLength (a .w) (a .h) 0 (a .levels .now) (a .words .now))) ∷ []) _ (c .before .before .size-verdict .ensures) (c .if1 .taken)
 
-levels-fit-requires : tie.Need-levels-fit-requires
-levels-fit-requires c κs = search needs
-
-verdict-of-requires-2 : tie.Need-verdict-of-requires-2
-verdict-of-requires-2 c κs = search needs
+row-verdict-requires : tie.Need-row-verdict-requires
+row-verdict-requires c κs = search needs
 
 returns-2 : tie.Need-returns-2
 returns-2 c =
-    let d = c .before in
-    c .verdict-of2 .ensures
-    ∙ (let a = d .before .before .before .before .before .before .before .args in
-    write-3 (a .w) (a .h) 0 (a .levels .now) (a .words .now) (a .file .now)
-    (sym (d .before .before .before .sides-fit .ensures) ∙ not-false _ (d .before .before .if1 .left))
-    (sym (d .before .levels-fit .ensures) ∙ not-true _ (d .if2 .taken)))
+    let a = c .before .before .before .before .before .before .before .before .before .args in
+    gone-on (sizeRows eight (a .w) (a .h) (a .levels .now)) ((row 16 (ltb limit (length (a .words .now)))) ∷ (wordsFitRow eight (a .w) (a .h) (a .levels .now) (a .words .now)) ∷ (rowAt 15 (ltb (length (a .file .now)) (fileLength (a .w) (a .h) 0 (a .levels .now) (a .words .now))) (fileLength (a .w) (a .h) 0 (a .levels .now) (a .words .now))) ∷ []) _ _ refl (c .before .before .before .before .before .size-verdict .ensures) (c .before .before .before .if1 .left) (stopped ((row 16 (ltb limit (length (a .words .now)))) ∷ []) ((wordsFitRow eight (a .w) (a .h) (a .levels .now) (a .words .now)) ∷ (rowAt 15 (ltb (length (a .file .now)) (fileLength (a .w) (a .h) 0 (a .levels .now) (a .words .now))) (fileLength (a .w) (a .h) 0 (a .levels .now) (a .words .now))) ∷ []) _ (c .before .before .row-verdict .ensures) (c .if2 .taken))
 
-verdict-of-requires-3 : tie.Need-verdict-of-requires-3
-verdict-of-requires-3 c κs = search needs
+first-bad-word-requires : tie.Need-first-bad-word-requires
+first-bad-word-requires c κs = let a = c .before .before .before .before .before .before .before .before .before .args in of-size eight (a .w) (a .h) (a .levels .now) (ap (λ (v : Verdict). v .number) (sym (c .before .before .before .before .before .size-verdict .ensures)) ∙ c .before .before .before .if1 .left) .0
+
+row-verdict-requires-2 : tie.Need-row-verdict-requires-2
+row-verdict-requires-2 c κs = search needs
 
 returns-3 : tie.Need-returns-3
 returns-3 c =
-    let d = c .before in
-    c .verdict-of3 .ensures
-    ∙ (let a = d .before .before .before .before .before .before .before .before .args in
-    write-16 (a .w) (a .h) 0 (a .levels .now) (a .words .now) (a .file .now)
-    (sym (d .before .before .before .before .sides-fit .ensures) ∙ not-false _ (d .before .before .before .if1 .left))
-    (sym (d .before .before .levels-fit .ensures) ∙ not-false _ (d .before .if2 .left))
-    (d .if3 .taken))
-
-first-bad-word-requires : tie.Need-first-bad-word-requires
-first-bad-word-requires c κs = sides-in _ _ (sym (c .before .before .before .before .sides-fit .ensures) ∙ not-false _ (c .before .before .before .if1 .left))
-
-verdict-of-requires-4 : tie.Need-verdict-of-requires-4
-verdict-of-requires-4 c κs = search needs
-
-returns-4 : tie.Need-returns-4
-returns-4 c =
-    let d = c .before in
-    c .verdict-of4 .ensures
-    ∙ (let a = d .before .before .before .before .before .before .before .before .before .before .args in
-    write-8 (a .w) (a .h) 0 (a .levels .now) (a .words .now) (a .file .now)
-    (sym (d .before .before .before .before .before .before .sides-fit .ensures) ∙ not-false _ (d .before .before .before .before .before .if1 .left))
-    (sym (d .before .before .before .before .levels-fit .ensures) ∙ not-false _ (d .before .before .before .if2 .left))
-    (d .before .before .if3 .left)
-    (d .before .first-bad-word .result)
-    (d .before .first-bad-word .ensures)
-    (d .if4 .taken))
+    let a = c .before .before .before .before .before .before .before .before .before .before .before .before .before .args in
+    gone-on (sizeRows eight (a .w) (a .h) (a .levels .now)) ((row 16 (ltb limit (length (a .words .now)))) ∷ (wordsFitRow eight (a .w) (a .h) (a .levels .now) (a .words .now)) ∷ (rowAt 15 (ltb (length (a .file .now)) (fileLength (a .w) (a .h) 0 (a .levels .now) (a .words .now))) (fileLength (a .w) (a .h) 0 (a .levels .now) (a .words .now))) ∷ []) _ _ refl (c .before .before .before .before .before .before .before .before .before .size-verdict .ensures) (c .before .before .before .before .before .before .before .if1 .left)
+    (gone-on ((row 16 (ltb limit (length (a .words .now)))) ∷ []) ((wordsFitRow eight (a .w) (a .h) (a .levels .now) (a .words .now)) ∷ (rowAt 15 (ltb (length (a .file .now)) (fileLength (a .w) (a .h) 0 (a .levels .now) (a .words .now))) (fileLength (a .w) (a .h) 0 (a .levels .now) (a .words .now))) ∷ []) _ _ refl (c .before .before .before .before .before .before .row-verdict .ensures) (c .before .before .before .before .if2 .left) (stopped ((wordsFitRow eight (a .w) (a .h) (a .levels .now) (a .words .now)) ∷ []) ((rowAt 15 (ltb (length (a .file .now)) (fileLength (a .w) (a .h) 0 (a .levels .now) (a .words .now))) (fileLength (a .w) (a .h) 0 (a .levels .now) (a .words .now))) ∷ []) _ (rw (c .before .before .before .first-bad-word .ensures) at (c .before .before .row-verdict2 .ensures)) (c .if3 .taken)))
 
 blocks-for-requires : tie.Need-blocks-for-requires
-blocks-for-requires c κs = search needs
+blocks-for-requires c κs =
+    let a = c .before .before .before .before .before .before .before .before .before .before .before .before .before .args in
+    ltb-false limit (length (a .words .now)) (clean (row 16 (ltb limit (length (a .words .now)))) [] (λ z. omega arith) (ap (λ (v : Verdict). v .number) (sym (c .before .before .before .before .before .before .row-verdict .ensures)) ∙ c .before .before .before .before .if2 .left) .0)
 
 add-needed : tie.Need-add-needed
 add-needed c = search needs
@@ -77,62 +54,29 @@ add-needed c = search needs
 mul-needed : tie.Need-mul-needed
 mul-needed c = search needs
 
-verdict-of-requires-5 : tie.Need-verdict-of-requires-5
-verdict-of-requires-5 c κs = search needs
+row-verdict-requires-3 : tie.Need-row-verdict-requires-3
+row-verdict-requires-3 c κs = search needs
 
-returns-5 : tie.Need-returns-5
-returns-5 c =
-    let d = c .before in
-    c .verdict-of5 .ensures
-    ∙ (let a = d .before .before .before .before .before .before .before .before .before .before .before .before .args in
-    let e : 512 * (1 + d .before .blocks-for .result) ≡ fileLength (a .w) (a .h) 0 (a .levels .now) (a .words .now) = ap (λ (n : ℕ). 512 * (1 + n)) (d .before .blocks-for .ensures .0) in
-    ap (λ (n : ℕ). record { number = 15; place = n }) e
-    ∙ write-15 (a .w) (a .h) 0 (a .levels .now) (a .words .now) (a .file .now)
-    (sym (d .before .before .before .before .before .before .before .before .sides-fit .ensures) ∙ not-false _ (d .before .before .before .before .before .before .before .if1 .left))
-    (sym (d .before .before .before .before .before .before .levels-fit .ensures) ∙ not-false _ (d .before .before .before .before .before .if2 .left))
-    (d .before .before .before .before .if3 .left)
-    (d .before .before .before .first-bad-word .result)
-    (d .before .before .before .first-bad-word .ensures)
-    (d .before .before .if4 .left)
-    (rw e at (d .if5 .taken)))
-
-verdict-of-requires-6 : tie.Need-verdict-of-requires-6
-verdict-of-requires-6 c κs = search needs
-
-returns-6 : tie.Need-returns-6
-returns-6 c =
-    let d = c .before in
-    c .verdict-of6 .ensures
-    ∙ (let a = d .before .before .before .before .before .before .before .before .before .before .before .before .args in
-    let e : 512 * (1 + d .before .blocks-for .result) ≡ fileLength (a .w) (a .h) 0 (a .levels .now) (a .words .now) = ap (λ (n : ℕ). 512 * (1 + n)) (d .before .blocks-for .ensures .0) in
-    write-0 (a .w) (a .h) 0 (a .levels .now) (a .words .now) (a .file .now)
-    (sym (d .before .before .before .before .before .before .before .before .sides-fit .ensures) ∙ not-false _ (d .before .before .before .before .before .before .before .if1 .left))
-    (sym (d .before .before .before .before .before .before .levels-fit .ensures) ∙ not-false _ (d .before .before .before .before .before .if2 .left))
-    (d .before .before .before .before .if3 .left)
-    (d .before .before .before .first-bad-word .result)
-    (d .before .before .before .first-bad-word .ensures)
-    (d .before .before .if4 .left)
-    (rw e at (d .if5 .left)))
+returns-4 : tie.Need-returns-4
+returns-4 c =
+    let a = c .before .before .before .before .before .before .before .before .before .before .before .before .before .before .before .args in
+    gone-on (sizeRows eight (a .w) (a .h) (a .levels .now)) ((row 16 (ltb limit (length (a .words .now)))) ∷ (wordsFitRow eight (a .w) (a .h) (a .levels .now) (a .words .now)) ∷ (rowAt 15 (ltb (length (a .file .now)) (fileLength (a .w) (a .h) 0 (a .levels .now) (a .words .now))) (fileLength (a .w) (a .h) 0 (a .levels .now) (a .words .now))) ∷ []) _ _ refl (c .before .before .before .before .before .before .before .before .before .before .before .size-verdict .ensures) (c .before .before .before .before .before .before .before .before .before .if1 .left)
+    (gone-on ((row 16 (ltb limit (length (a .words .now)))) ∷ []) ((wordsFitRow eight (a .w) (a .h) (a .levels .now) (a .words .now)) ∷ (rowAt 15 (ltb (length (a .file .now)) (fileLength (a .w) (a .h) 0 (a .levels .now) (a .words .now))) (fileLength (a .w) (a .h) 0 (a .levels .now) (a .words .now))) ∷ []) _ _ refl (c .before .before .before .before .before .before .before .before .row-verdict .ensures) (c .before .before .before .before .before .before .if2 .left)
+    (gone-on ((wordsFitRow eight (a .w) (a .h) (a .levels .now) (a .words .now)) ∷ []) ((rowAt 15 (ltb (length (a .file .now)) (fileLength (a .w) (a .h) 0 (a .levels .now) (a .words .now))) (fileLength (a .w) (a .h) 0 (a .levels .now) (a .words .now))) ∷ []) _ _ refl (rw (c .before .before .before .before .before .first-bad-word .ensures) at (c .before .before .before .before .row-verdict2 .ensures)) (c .before .before .if3 .left) (rw (c .before .blocks-for .ensures .0) at (c .row-verdict3 .ensures))))
 
 pub write-verdict-spec : {M : Type 1} → statement M
 write-verdict-spec =
     tie.close
     (tie.spec
-    sides-fit-requires
-    verdict-of-requires
+    size-verdict-requires
     returns
-    levels-fit-requires
-    verdict-of-requires-2
+    row-verdict-requires
     returns-2
-    verdict-of-requires-3
-    returns-3
     first-bad-word-requires
-    verdict-of-requires-4
-    returns-4
+    row-verdict-requires-2
+    returns-3
     blocks-for-requires
     add-needed
     mul-needed
-    verdict-of-requires-5
-    returns-5
-    verdict-of-requires-6
-    returns-6)
+    row-verdict-requires-3
+    returns-4)

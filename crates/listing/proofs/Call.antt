@@ -10,7 +10,7 @@ use Rattle.trace.proofs.Refusals.{Sound, sound}
 use Rattle.enclosure.specs.Call.{treeVerdict}
 use Rattle.enclosure.proofs.Lines.{Setting}
 use Rattle.tree.proofs.Ranked.{setting-of}
-use Rattle.tree.proofs.Verdicts.{passed-list}
+use Rattle.tree.proofs.Verdicts.{passed-both}
 use Rattle.listing.specs.Printed.{blank, callVerdict}
 
 blank-length : (n : ℕ) → length (blank n) ≡ n
@@ -23,7 +23,7 @@ module _ (P : Picture) (ks work words places : List ℕ) where
   same-verdict x y z = rw (x, y, z, blank-length 16384, blank-length 8192)
 
   pub ground-of : treeVerdict eight P ks work words places .number ≡ 0 → Sound eight P ks work words
-  ground-of e = sound eight P ks work words (passed-list P ks work words places e)
+  ground-of e = sound eight P ks work words (passed-both eight P ks work words places e .0)
 
   pub setting-for : treeVerdict eight P ks work words places .number ≡ 0 → Setting eight P ks
   setting-for e = let s = ground-of e in setting-of P ks (s .ground) (s .levels)

@@ -3,7 +3,7 @@
 --   cell is crossed; `centre`, `delta`; `Case` a case's number and values, `caseOf` those of each case of the enum; `pieceOf` which piece it is; `Told` an answer with its piece's number and values,
 --   `told` that of the code's answer; `pieceRows`, `pieceVerdict`, `pieceAnswer` the call.
 use mathlib.Core.Bool.{Bool, true, false, not, _&&_, _||_, cond}
-use mathlib.Core.List.{List, [], _∷_}
+use mathlib.Core.List.{List, [], _∷_, _++_}
 use Prim.Native.Nat.{ℕ, suc, _+_, _*_}
 use lib.Dec.{eqb, ltb, leb}
 use lib.IntN.{ℤ, pos, negsuc, negℤ, _+ℤ_, _-ℤ_, _*ℤ_}
@@ -12,7 +12,8 @@ use Rattle.refuse.specs.declared.Answer.{Answer}
 use Rattle.refuse.specs.declared.Verdict.{Verdict}
 use Rattle.matte.specs.Layout.{Layout}
 use Rattle.matte.specs.Picture.{Picture, at, high}
-use Rattle.refuse.specs.Refusal.{Row, verdict, row, answer, afterwards, sidesRow, samplesRow, levelsRow}
+use Rattle.refuse.specs.Refusal.{Row, verdict, row, answer, afterwards}
+use Rattle.refuse.specs.Shape.{levelRows}
 use Rattle.edgel.specs.declared.Heading.the-variants.{South, East, North, West}
 use Rattle.edgel.specs.Edgel.{crossed}
 use Rattle.cell.specs.Turn.{out}
@@ -116,7 +117,7 @@ module _ (P : Picture) (k x y : ℕ) where
   module _ (L : Layout) where
     -- 1 2 3 11 10 (01, Numbers for a refused call)
     abbrev pub pieceRows : List Row
-    pieceRows = sidesRow (P .w) (P .h) ∷ samplesRow P ∷ levelsRow L (k ∷ []) ∷ row 11 (not isCell) ∷ row 10 (not met) ∷ []
+    pieceRows = levelRows L P (k ∷ []) ++ (row 11 (not isCell) ∷ row 10 (not met) ∷ [])
 
     abbrev pub pieceVerdict : Verdict
     pieceVerdict = verdict pieceRows

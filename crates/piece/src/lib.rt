@@ -1,9 +1,9 @@
 // The piece call: what the level line is inside one cell.
 use refuse::Answer;
 use refuse::Verdict;
-use refuse::area;
-use refuse::levels_fit;
-use refuse::sides_fit;
+use refuse::answered;
+use refuse::level_verdict;
+use refuse::row_verdict;
 ghost use mathlib.Core.Path.{_≡_};
 ghost use mathlib.Core.Bool.{Bool, true, false, _&&_};
 ghost use Prim.Native.Nat.{ℕ, _+_, _*_, _<_, _≤_};
@@ -178,42 +178,17 @@ fn corners_at(px: &[u8], w: usize, t: usize) -> Corners
 fn piece_verdict(w: usize, h: usize, px: &[u8], k: u8, x: usize, y: usize) -> Verdict
     ensures { λ r. ⌜ r ≡ pieceVerdict (picture w h (now (px .entry))) k x y eight ⌝ }
 {
-    if !sides_fit(w, h) {
-        return Verdict {
-            number: 1,
-            place: 0,
-        };
-    }
-    if px.len() != area(w, h) {
-        return Verdict {
-            number: 2,
-            place: 0,
-        };
-    }
     let ks = [k];
-    if !levels_fit(&ks) {
-        return Verdict {
-            number: 3,
-            place: 0,
-        };
+    let v = level_verdict(w, h, px, &ks);
+    if v.number != 0 {
+        return v;
     }
-    if !is_cell(w, h, x, y) {
-        return Verdict {
-            number: 11,
-            place: 0,
-        };
+    let u = row_verdict(11, !is_cell(w, h, x, y), 0);
+    if u.number != 0 {
+        return u;
     }
     let q = corners_at(px, w, place_of(w, x, y));
-    if !is_mixed(k < q.p0, k < q.p1, k < q.p2, k < q.p3) {
-        return Verdict {
-            number: 10,
-            place: 0,
-        };
-    }
-    Verdict {
-        number: 0,
-        place: 0,
-    }
+    row_verdict(10, !is_mixed(k < q.p0, k < q.p1, k < q.p2, k < q.p3), 0)
 }
 
 // The piece of level k in the cell whose top left sample is (x, y).
@@ -221,27 +196,15 @@ pub fn piece_at(w: usize, h: usize, px: &[u8], k: u8, x: usize, y: usize) -> Fou
     ensures { λ r. ⌜ told r ≡ pieceAnswer (picture w h (now (px .entry))) k x y eight ⌝ }
 {
     let v = piece_verdict(w, h, px, k, x, y);
-    let number = v.number;
-    let place = v.place;
-    if number != 0 {
+    if v.number != 0 {
         return Found {
-            answer: Answer {
-                number: number,
-                place: place,
-                words: 0,
-                lines: 0,
-            },
+            answer: answered(v, 0, 0),
             piece: Piece::Refused,
         };
     }
     let q = corners_at(px, w, place_of(w, x, y));
     Found {
-        answer: Answer {
-            number: 0,
-            place: 0,
-            words: 0,
-            lines: 0,
-        },
+        answer: answered(v, 0, 0),
         piece: piece_of(k, q.p0, q.p1, q.p2, q.p3),
     }
 }

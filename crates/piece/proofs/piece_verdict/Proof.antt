@@ -1,104 +1,91 @@
--- `piece::piece_verdict` meets its contract. Assumes nothing.
-use mathlib.Core.Path.{sym, _∙_}
-use Prim.Native.Nat.{_*_}
+-- `piece::piece_verdict` meets its contract: 1 2 3, then 11, then 10. Assumes nothing.
+use mathlib.Core.Path.{refl, sym, ap, _∙_}
+use mathlib.Core.Bool.{not}
+use mathlib.Core.List.{[], _∷_}
+use native.Mathlib.Nat.{mul-le-mul}
 use native.Mathlib.Omega.{arith}
-use lib.ListN.{length}
-use borrow.Author.Tests.{eq-eqb, ne-eqb, not-true, not-false}
-use borrow.Author.Needs.{needs}
+use Rattle.matte.specs.Layout.{eight}
 use Rattle.matte.specs.Picture.{picture}
-use Rattle.refuse.proofs.Sides.{sides-in}
+use Rattle.refuse.specs.declared.Verdict.{Verdict}
+use Rattle.refuse.specs.Refusal.{row}
+use Rattle.refuse.specs.Shape.{levelRows}
+use Rattle.refuse.proofs.Rows.{stopped, gone-on, clean-fit}
+use Rattle.refuse.proofs.Sides.{levelled}
+use Rattle.piece.specs.Piece.{isCell, met}
 use Rattle.piece.proofs.Small.{cell-right, cell-below}
-use Rattle.piece.proofs.Told.{refuse-1, refuse-2, refuse-3, refuse-11, refuse-10, refuse-none, met-from, last-in}
+use Rattle.piece.proofs.Told.{met-from, last-in}
+use borrow.Author.Needs.{needs}
 use Rattle.piece.proofs.piece_verdict.Statement.{statement}
 use Rattle.piece.proofs.piece_verdict.Tie as tie
 
-sides-fit-requires : tie.Need-sides-fit-requires
-sides-fit-requires c κs = search needs
+slice-aggregate-level-verdict : tie.Need-slice-aggregate-level-verdict
+slice-aggregate-level-verdict c = search needs
+
+level-verdict-requires : tie.Need-level-verdict-requires
+level-verdict-requires c κs = search needs
 
 returns : tie.Need-returns
-returns c =
-    let a = c .before .before .before .args in
-    let P = picture (a .w) (a .h) (a .px .now) in
-    refuse-1 P (a .k) (a .x) (a .y) (sym (c .before .sides-fit .ensures) ∙ not-true _ (c .if1 .taken))
+returns c = let a = c .before .before .before .before .before .args in stopped (levelRows eight (picture (a .w) (a .h) (a .px .now)) (a .k ∷ [])) ((row 11 (not (isCell (picture (a .w) (a .h) (a .px .now)) (a .k) (a .x) (a .y)))) ∷ (row 10 (not (met (picture (a .w) (a .h) (a .px .now)) (a .k) (a .x) (a .y)))) ∷ []) _ (c .before .before .level-verdict .ensures) (c .if1 .taken)
 
-area-requires : tie.Need-area-requires
-area-requires c κs = sides-in _ _ (sym (c .before .sides-fit .ensures) ∙ not-false _ (c .if1 .left))
+is-cell-requires : tie.Need-is-cell-requires
+is-cell-requires c κs =
+    let a = c .before .before .before .before .before .args in
+    let l = levelled eight (picture (a .w) (a .h) (a .px .now)) (a .k ∷ []) (ap (λ (v : Verdict). v .number) (sym (c .before .before .level-verdict .ensures)) ∙ c .if1 .left) .0 in
+    l .sides
+
+row-verdict-requires : tie.Need-row-verdict-requires
+row-verdict-requires c κs = search needs
 
 returns-2 : tie.Need-returns-2
 returns-2 c =
-    let a = c .before .before .before .before .before .args in
-    let P = picture (a .w) (a .h) (a .px .now) in
-    refuse-2 P (a .k) (a .x) (a .y) (sym (c .before .before .before .sides-fit .ensures) ∙ not-false _ (c .before .before .if1 .left)) (ne-eqb (length (a .px .now)) (a .w * a .h) (λ e. omega (arith, c .if2 .taken, c .before .area .ensures .0)))
-
-slice-aggregate-levels-fit : tie.Need-slice-aggregate-levels-fit
-slice-aggregate-levels-fit c = search needs
-
-levels-fit-requires : tie.Need-levels-fit-requires
-levels-fit-requires c κs = search needs
-
-returns-3 : tie.Need-returns-3
-returns-3 c =
-    let a = c .before .before .before .before .before .before .before .before .args in
-    let P = picture (a .w) (a .h) (a .px .now) in
-    refuse-3 P (a .k) (a .x) (a .y) (sym (c .before .before .before .before .before .before .sides-fit .ensures) ∙ not-false _ (c .before .before .before .before .before .if1 .left)) (eq-eqb (length (a .px .now)) (a .w * a .h) (omega (arith, c .before .before .before .if2 .left, c .before .before .before .before .area .ensures .0))) (sym (c .before .levels-fit .ensures) ∙ not-true _ (c .if3 .taken))
-
-is-cell-requires : tie.Need-is-cell-requires
-is-cell-requires c κs = sides-in _ _ (sym (c .before .before .before .before .before .before .sides-fit .ensures) ∙ not-false _ (c .before .before .before .before .before .if1 .left))
-
-returns-4 : tie.Need-returns-4
-returns-4 c =
-    let a = c .before .before .before .before .before .before .before .before .before .before .args in
-    let P = picture (a .w) (a .h) (a .px .now) in
-    refuse-11 P (a .k) (a .x) (a .y) (sym (c .before .before .before .before .before .before .before .before .sides-fit .ensures) ∙ not-false _ (c .before .before .before .before .before .before .before .if1 .left)) (eq-eqb (length (a .px .now)) (a .w * a .h) (omega (arith, c .before .before .before .before .before .if2 .left, c .before .before .before .before .before .before .area .ensures .0))) (sym (c .before .before .before .levels-fit .ensures) ∙ not-false _ (c .before .before .if3 .left)) (sym (c .before .is-cell .ensures) ∙ not-true _ (c .if4 .taken))
+    let a = c .before .before .before .before .before .before .before .before .before .args in
+    gone-on (levelRows eight (picture (a .w) (a .h) (a .px .now)) (a .k ∷ [])) ((row 11 (not (isCell (picture (a .w) (a .h) (a .px .now)) (a .k) (a .x) (a .y)))) ∷ (row 10 (not (met (picture (a .w) (a .h) (a .px .now)) (a .k) (a .x) (a .y)))) ∷ []) _ _ refl (c .before .before .before .before .before .before .level-verdict .ensures) (c .before .before .before .before .if1 .left) (stopped ((row 11 (not (isCell (picture (a .w) (a .h) (a .px .now)) (a .k) (a .x) (a .y)))) ∷ []) ((row 10 (not (met (picture (a .w) (a .h) (a .px .now)) (a .k) (a .x) (a .y)))) ∷ []) _ (rw (c .before .before .before .is-cell .ensures) at (c .before .before .row-verdict .ensures)) (c .if2 .taken))
 
 place-of-requires : tie.Need-place-of-requires
 place-of-requires c κs =
-    let a = c .before .before .before .before .before .before .before .before .before .before .args in
-    let s = sides-in (a .w) (a .h) (sym (c .before .before .before .before .before .before .before .before .sides-fit .ensures) ∙ not-false _ (c .before .before .before .before .before .before .before .if1 .left)) in
-    let u = cell-right (a .w) (a .h) (a .x) (a .y) (sym (c .before .is-cell .ensures) ∙ not-false _ (c .if4 .left)) in
-    let l = cell-below (a .w) (a .h) (a .x) (a .y) (sym (c .before .is-cell .ensures) ∙ not-false _ (c .if4 .left)) in
-    (s .w-most, omega (arith, s .w-most), omega (arith, s .h-most))
+    let a = c .before .before .before .before .before .before .before .before .before .args in
+    let l = levelled eight (picture (a .w) (a .h) (a .px .now)) (a .k ∷ []) (ap (λ (v : Verdict). v .number) (sym (c .before .before .before .before .before .before .level-verdict .ensures)) ∙ c .before .before .before .before .if1 .left) .0 in
+    let u = (rw (c .before .before .before .is-cell .ensures) at (c .before .before .row-verdict .ensures)) in
+    let e = clean-fit 11 (isCell (picture (a .w) (a .h) (a .px .now)) (a .k) (a .x) (a .y)) [] (λ z. omega arith) (ap (λ (v : Verdict). v .number) (sym u) ∙ c .if2 .left) .0 in
+    let r = cell-right (a .w) (a .h) (a .x) (a .y) e in
+    let b = cell-below (a .w) (a .h) (a .x) (a .y) e in
+    (l .sides .w-most, omega (arith, l .sides .w-most), omega (arith, l .sides .h-most))
 
 corners-at-requires : tie.Need-corners-at-requires
 corners-at-requires c κs =
-    let a = c .before .before .before .before .before .before .before .before .before .before .before .args in
-    let s = sides-in (a .w) (a .h) (sym (c .before .before .before .before .before .before .before .before .before .sides-fit .ensures) ∙ not-false _ (c .before .before .before .before .before .before .before .before .if1 .left)) in
-    let u = cell-right (a .w) (a .h) (a .x) (a .y) (sym (c .before .before .is-cell .ensures) ∙ not-false _ (c .before .if4 .left)) in
-    let l = cell-below (a .w) (a .h) (a .x) (a .y) (sym (c .before .before .is-cell .ensures) ∙ not-false _ (c .before .if4 .left)) in
-    (omega (arith, c .before .before .before .before .before .before .if2 .left, c .before .before .before .before .before .before .before .area .ensures), omega (arith, last-in (a .w) (a .h) (a .x) (a .y) u l, c .place-of .ensures, c .before .before .before .before .before .before .if2 .left, c .before .before .before .before .before .before .before .area .ensures))
+    let a = c .before .before .before .before .before .before .before .before .before .before .args in
+    let l = levelled eight (picture (a .w) (a .h) (a .px .now)) (a .k ∷ []) (ap (λ (v : Verdict). v .number) (sym (c .before .before .before .before .before .before .before .level-verdict .ensures)) ∙ c .before .before .before .before .before .if1 .left) .0 in
+    let u = (rw (c .before .before .before .before .is-cell .ensures) at (c .before .before .before .row-verdict .ensures)) in
+    let e = clean-fit 11 (isCell (picture (a .w) (a .h) (a .px .now)) (a .k) (a .x) (a .y)) [] (λ z. omega arith) (ap (λ (v : Verdict). v .number) (sym u) ∙ c .before .if2 .left) .0 in
+    let r = cell-right (a .w) (a .h) (a .x) (a .y) e in
+    let b = cell-below (a .w) (a .h) (a .x) (a .y) e in
+    (omega (arith, l .whole, mul-le-mul (l .sides .w-most) (l .sides .h-most)), omega (arith, last-in (a .w) (a .h) (a .x) (a .y) r b, c .place-of .ensures, l .whole))
 
 is-mixed-requires : tie.Need-is-mixed-requires
 is-mixed-requires c κs = search needs
 
-returns-5 : tie.Need-returns-5
-returns-5 c =
-    let a = c .before .before .before .before .before .before .before .before .before .before .before .before .before .before .before .before .before .before .args in
-    let P = picture (a .w) (a .h) (a .px .now) in
-    refuse-10 P (a .k) (a .x) (a .y) (sym (c .before .before .before .before .before .before .before .before .before .before .before .before .before .before .before .before .sides-fit .ensures) ∙ not-false _ (c .before .before .before .before .before .before .before .before .before .before .before .before .before .before .before .if1 .left)) (eq-eqb (length (a .px .now)) (a .w * a .h) (omega (arith, c .before .before .before .before .before .before .before .before .before .before .before .before .before .if2 .left, c .before .before .before .before .before .before .before .before .before .before .before .before .before .before .area .ensures .0))) (sym (c .before .before .before .before .before .before .before .before .before .before .before .levels-fit .ensures) ∙ not-false _ (c .before .before .before .before .before .before .before .before .before .before .if3 .left)) (sym (c .before .before .before .before .before .before .before .before .before .is-cell .ensures) ∙ not-false _ (c .before .before .before .before .before .before .before .before .if4 .left))
-    (sym (met-from P (a .k) (a .x) (a .y) _ _ (c .before .before .before .before .before .before .corners-at .ensures) (c .before .before .before .before .before .before .before .place-of .ensures)) ∙ sym (c .before .is-mixed .ensures) ∙ not-true _ (c .if5 .taken))
+row-verdict-requires-2 : tie.Need-row-verdict-requires-2
+row-verdict-requires-2 c κs = search needs
 
-returns-6 : tie.Need-returns-6
-returns-6 c =
-    let a = c .before .before .before .before .before .before .before .before .before .before .before .before .before .before .before .before .before .before .args in
-    let P = picture (a .w) (a .h) (a .px .now) in
-    refuse-none P (a .k) (a .x) (a .y) (sym (c .before .before .before .before .before .before .before .before .before .before .before .before .before .before .before .before .sides-fit .ensures) ∙ not-false _ (c .before .before .before .before .before .before .before .before .before .before .before .before .before .before .before .if1 .left)) (eq-eqb (length (a .px .now)) (a .w * a .h) (omega (arith, c .before .before .before .before .before .before .before .before .before .before .before .before .before .if2 .left, c .before .before .before .before .before .before .before .before .before .before .before .before .before .before .area .ensures .0))) (sym (c .before .before .before .before .before .before .before .before .before .before .before .levels-fit .ensures) ∙ not-false _ (c .before .before .before .before .before .before .before .before .before .before .if3 .left)) (sym (c .before .before .before .before .before .before .before .before .before .is-cell .ensures) ∙ not-false _ (c .before .before .before .before .before .before .before .before .if4 .left))
-    (sym (met-from P (a .k) (a .x) (a .y) _ _ (c .before .before .before .before .before .before .corners-at .ensures) (c .before .before .before .before .before .before .before .place-of .ensures)) ∙ sym (c .before .is-mixed .ensures) ∙ not-false _ (c .if5 .left))
+returns-3 : tie.Need-returns-3
+returns-3 c =
+    let a = c .before .before .before .before .before .before .before .before .before .before .before .before .before .before .before .before .before .args in
+    let x = c .before .is-mixed .ensures ∙ met-from (picture (a .w) (a .h) (a .px .now)) (a .k) (a .x) (a .y) _ _ (c .before .before .before .before .before .before .corners-at .ensures) (c .before .before .before .before .before .before .before .place-of .ensures) in
+    gone-on (levelRows eight (picture (a .w) (a .h) (a .px .now)) (a .k ∷ [])) ((row 11 (not (isCell (picture (a .w) (a .h) (a .px .now)) (a .k) (a .x) (a .y)))) ∷ (row 10 (not (met (picture (a .w) (a .h) (a .px .now)) (a .k) (a .x) (a .y)))) ∷ []) _ _ refl (c .before .before .before .before .before .before .before .before .before .before .before .before .before .before .level-verdict .ensures) (c .before .before .before .before .before .before .before .before .before .before .before .before .if1 .left)
+    (gone-on ((row 11 (not (isCell (picture (a .w) (a .h) (a .px .now)) (a .k) (a .x) (a .y)))) ∷ []) ((row 10 (not (met (picture (a .w) (a .h) (a .px .now)) (a .k) (a .x) (a .y)))) ∷ []) _ _ refl (rw (c .before .before .before .before .before .before .before .before .before .before .before .is-cell .ensures) at (c .before .before .before .before .before .before .before .before .before .before .row-verdict .ensures)) (c .before .before .before .before .before .before .before .before .if2 .left) (rw x at (c .row-verdict2 .ensures)))
 
 pub piece-verdict-spec : {M : Type 1} → statement M
 piece-verdict-spec =
     tie.close
     (tie.spec
-    sides-fit-requires
+    slice-aggregate-level-verdict
+    level-verdict-requires
     returns
-    area-requires
-    returns-2
-    slice-aggregate-levels-fit
-    levels-fit-requires
-    returns-3
     is-cell-requires
-    returns-4
+    row-verdict-requires
+    returns-2
     place-of-requires
     corners-at-requires
     is-mixed-requires
-    returns-5
-    returns-6)
+    row-verdict-requires-2
+    returns-3)

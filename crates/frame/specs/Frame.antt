@@ -10,7 +10,8 @@ use Rattle.refuse.specs.declared.Answer.{Answer}
 use Rattle.refuse.specs.declared.Verdict.{Verdict}
 use Rattle.matte.specs.Layout.{Layout}
 use Rattle.matte.specs.Picture.{Picture, size, at, onBorder}
-use Rattle.refuse.specs.Refusal.{Row, verdict, answer, afterwards, sidesRow, samplesRow, roomRow}
+use Rattle.refuse.specs.Refusal.{Row, verdict, answer, afterwards, roomRow}
+use Rattle.refuse.specs.Shape.{shapeRows}
 
 -- the samples on the border, each once, row by row (01, Framing)
 unfoldable pub borderSamples : Picture → List ℕ
@@ -28,7 +29,7 @@ module _ (L : Layout) (P : Picture) where
   module _ (room : List ℕ) where
     -- 1 2 9 (01, Numbers for a refused call)
     abbrev pub frameRows : List Row
-    frameRows = sidesRow (P .w) (P .h) ∷ samplesRow P ∷ roomRow (P .w) (P .h) room ∷ []
+    frameRows = shapeRows P ++ (roomRow (P .w) (P .h) room ∷ [])
 
     abbrev pub frameVerdict : Verdict
     frameVerdict = verdict frameRows

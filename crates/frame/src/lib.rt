@@ -2,7 +2,8 @@
 use refuse::Answer;
 use refuse::Verdict;
 use refuse::area;
-use refuse::sides_fit;
+use refuse::row_verdict;
+use refuse::shape_verdict;
 ghost use mathlib.Core.Path.{_≡_};
 ghost use mathlib.Core.Bool.{true};
 ghost use mathlib.Core.List.{List, [], _∷_};
@@ -126,29 +127,11 @@ fn frame_rows(w: usize, h: usize, px: &[u8], v: u8, room: &mut [u8])
 fn frame_verdict(w: usize, h: usize, px: &[u8], places: usize) -> Verdict
     ensures { λ r. ⌜ (r ≡ verdict (sidesRow w h ∷ samplesRow (picture w h (now (px .entry))) ∷ row 9 (ltb places (w * h)) ∷ [])) × (r .number ≡ 0 → (Sides w h) × (length (now (px .entry)) ≡ w * h) × (w * h ≤ places)) ⌝ }
 {
-    if !sides_fit(w, h) {
-        return Verdict {
-            number: 1,
-            place: 0,
-        };
+    let v = shape_verdict(w, h, px);
+    if v.number != 0 {
+        return v;
     }
-    let n = area(w, h);
-    if px.len() != n {
-        return Verdict {
-            number: 2,
-            place: 0,
-        };
-    }
-    if places < n {
-        return Verdict {
-            number: 9,
-            place: 0,
-        };
-    }
-    Verdict {
-        number: 0,
-        place: 0,
-    }
+    row_verdict(9, places < area(w, h), 0)
 }
 
 // The picture with all border samples set to their lower median, in the first w·h places of `room`.

@@ -9,7 +9,8 @@ use Rattle.tally.specs.Tally.{odd, differ, tally, build}
 use Rattle.refuse.specs.declared.Answer.{Answer}
 use Rattle.refuse.specs.declared.Verdict.{Verdict}
 use Rattle.matte.specs.Layout.{Layout}
-use Rattle.refuse.specs.Refusal.{Row, verdict, answer, afterwards, sidesRow, levelsRow, roomRow}
+use Rattle.refuse.specs.Refusal.{Row, verdict, answer, afterwards, roomRow}
+use Rattle.refuse.specs.Shape.{sizeRows}
 use Rattle.edgel.specs.Word.{codeOf, levelOf}
 use Rattle.words.specs.Fit.{wordsFitRow}
 use Rattle.edgel.specs.Beside.{westOf}
@@ -35,7 +36,7 @@ module _ (L : Layout) (w v : ℕ) (ks ws : List ℕ) where
     module _ (room : List ℕ) where
       -- 1 3 8 9 (01, Numbers for a refused call)
       abbrev pub paintRows : List Row
-      paintRows = sidesRow w h ∷ levelsRow L ks ∷ wordsFitRow L w h ks ws ∷ roomRow w h room ∷ []
+      paintRows = sizeRows L w h ks ++ (wordsFitRow L w h ks ws ∷ roomRow w h room ∷ [])
 
       abbrev pub paintVerdict : Verdict
       paintVerdict = verdict paintRows

@@ -7,8 +7,9 @@ use layer::blank;
 use refuse::Answer;
 use refuse::Verdict;
 use refuse::area;
-use refuse::levels_fit;
-use refuse::sides_fit;
+use refuse::row_verdict;
+use refuse::sides_verdict;
+use refuse::size_verdict;
 use words::first_bad_code;
 use words::first_bad_word;
 ghost use mathlib.Core.Path.{_≡_};
@@ -129,41 +130,16 @@ fn odd_west(w: usize, ws: &[u32], x: usize, y: usize) -> bool
 fn member_verdict(w: usize, h: usize, words: &[u32], count: usize, x: usize, y: usize) -> Verdict
     ensures { λ r. ⌜ (r ≡ verdict (sidesRow w h ∷ codesRow eight w h (now (words .entry)) ∷ row 11 (not (ltb 0 count && (ltb x w && ltb y h))) ∷ [])) × (r .number ≡ 0 → (Sides w h) × (x < w) × (y < h)) ⌝ }
 {
-    if !sides_fit(w, h) {
-        return Verdict {
-            number: 1,
-            place: 0,
-        };
+    let v = sides_verdict(w, h);
+    if v.number != 0 {
+        return v;
     }
     let i = first_bad_code(w, h, words);
-    if i < words.len() {
-        return Verdict {
-            number: 8,
-            place: i,
-        };
+    let u = row_verdict(8, i < words.len(), i);
+    if u.number != 0 {
+        return u;
     }
-    if count == 0 {
-        return Verdict {
-            number: 11,
-            place: 0,
-        };
-    }
-    if w <= x {
-        return Verdict {
-            number: 11,
-            place: 0,
-        };
-    }
-    if h <= y {
-        return Verdict {
-            number: 11,
-            place: 0,
-        };
-    }
-    Verdict {
-        number: 0,
-        place: 0,
-    }
+    row_verdict(11, !((0 < count) & ((x < w) & (y < h))), 0)
 }
 
 // Whether the sample (x, y) is inside line n.
@@ -199,35 +175,16 @@ pub fn member(w: usize, h: usize, words: &[u32], n: usize, x: usize, y: usize) -
 fn paint_verdict(w: usize, h: usize, levels: &[u8], words: &[u32], places: usize) -> Verdict
     ensures { λ r. ⌜ (r ≡ verdict (sidesRow w h ∷ levelsRow eight (now (levels .entry)) ∷ wordsFitRow eight w h (now (levels .entry)) (now (words .entry)) ∷ row 9 (ltb places (w * h)) ∷ [])) × (r .number ≡ 0 → (Sides w h) × (levelsFit eight (now (levels .entry)) ≡ true) × (w * h ≤ places)) ⌝ }
 {
-    if !sides_fit(w, h) {
-        return Verdict {
-            number: 1,
-            place: 0,
-        };
-    }
-    if !levels_fit(levels) {
-        return Verdict {
-            number: 3,
-            place: 0,
-        };
+    let v = size_verdict(w, h, levels);
+    if v.number != 0 {
+        return v;
     }
     let i = first_bad_word(w, h, levels, words);
-    if i < words.len() {
-        return Verdict {
-            number: 8,
-            place: i,
-        };
+    let u = row_verdict(8, i < words.len(), i);
+    if u.number != 0 {
+        return u;
     }
-    if places < area(w, h) {
-        return Verdict {
-            number: 9,
-            place: 0,
-        };
-    }
-    Verdict {
-        number: 0,
-        place: 0,
-    }
+    row_verdict(9, places < area(w, h), 0)
 }
 
 // The samples that the words paint, with v on the border, in the first w·h places of `room`.

@@ -1,74 +1,40 @@
--- `frame::frame_verdict` meets its contract, one row after the other. Assumes nothing.
-use mathlib.Core.Path.{sym, _∙_}
-use mathlib.Core.Bool.{_&&_}
+-- `frame::frame_verdict` meets its contract: 1 2, then 9. Assumes nothing.
+use mathlib.Core.Path.{refl, sym, ap, _∙_}
 use mathlib.Core.List.{[], _∷_}
 use Prim.Native.Nat.{_*_}
 use native.Mathlib.Omega.{arith}
-use borrow.Author.Needs.{needs}
-use borrow.Author.Tests.{eq-eqb, ne-eqb, lt-ltb, le-ltb, not-true, not-false}
 use lib.Dec.{ltb}
-use Rattle.matte.specs.Picture.{picture, sideFits, samplesFit}
-use Rattle.refuse.specs.Refusal.{row, samplesRow}
-use Rattle.refuse.proofs.Rows.{fit, unfit, given, passed}
-use Rattle.refuse.proofs.Sides.{sides-in}
+use borrow.Author.Tests.{ltb-false}
+use Rattle.matte.specs.Picture.{picture}
+use Rattle.refuse.specs.declared.Verdict.{Verdict}
+use Rattle.refuse.specs.Refusal.{row}
+use Rattle.refuse.specs.Shape.{shapeRows}
+use Rattle.refuse.proofs.Rows.{stopped, gone-on, clean}
+use Rattle.refuse.proofs.Sides.{shaped}
+use borrow.Author.Needs.{needs}
 use Rattle.frame.proofs.frame_verdict.Statement.{statement}
 use Rattle.frame.proofs.frame_verdict.Tie as tie
 
-sides-fit-requires : tie.Need-sides-fit-requires
-sides-fit-requires c κs = search needs
+shape-verdict-requires : tie.Need-shape-verdict-requires
+shape-verdict-requires c κs = search needs
 
 returns : tie.Need-returns
-returns c =
-    let a = c .before .before .before .args in
-    let P = picture (a .w) (a .h) (a .px .now) in (
-      sym (unfit 1 (sideFits (a .w) && sideFits (a .h)) (samplesRow P ∷ row 9 (ltb (a .places) (a .w * a .h)) ∷ []) (sym (c .before .sides-fit .ensures) ∙ not-true _ (c .if1 .taken))),
-      λ z. absurd (omega arith),
-    )
+returns c = let a = c .before .before .before .before .args in (stopped (shapeRows (picture (a .w) (a .h) (a .px .now))) ((row 9 (ltb (a .places) (a .w * a .h))) ∷ []) _ (c .before .before .shape-verdict .ensures) (c .if1 .taken), λ z. absurd (c .if1 .taken z))
 
 area-requires : tie.Need-area-requires
-area-requires c κs = sides-in _ _ (sym (c .before .sides-fit .ensures) ∙ not-false _ (c .if1 .left))
+area-requires c κs = let a = c .before .before .before .before .args in shaped (picture (a .w) (a .h) (a .px .now)) (ap (λ (v : Verdict). v .number) (sym (c .before .before .shape-verdict .ensures)) ∙ c .if1 .left) .sides
+
+row-verdict-requires : tie.Need-row-verdict-requires
+row-verdict-requires c κs = search needs
 
 returns-2 : tie.Need-returns-2
 returns-2 c =
-    let s = c .before .before .before .before .before in
-    let a = s .args in
-    let P = picture (a .w) (a .h) (a .px .now) in
-    let R = row 9 (ltb (a .places) (a .w * a .h)) in (
-      sym
-          (fit 1 (sideFits (a .w) && sideFits (a .h)) (samplesRow P ∷ R ∷ []) (sym (c .before .before .before .sides-fit .ensures) ∙ not-false _ (c .before .before .if1 .left))
-          ∙ unfit 2 (samplesFit P) (R ∷ []) (ne-eqb _ _ (λ e. c .if2 .taken (e ∙ sym (c .before .area .ensures .0))))),
-      λ z. absurd (omega arith),
-    )
-
-returns-3 : tie.Need-returns-3
-returns-3 c =
-    let d = c .before in
-    let s = d .before .before .before .before .before in
-    let a = s .args in
-    let P = picture (a .w) (a .h) (a .px .now) in
-    let R = row 9 (ltb (a .places) (a .w * a .h)) in (
-      sym
-          (fit 1 (sideFits (a .w) && sideFits (a .h)) (samplesRow P ∷ R ∷ []) (sym (d .before .before .before .sides-fit .ensures) ∙ not-false _ (d .before .before .if1 .left))
-          ∙ fit 2 (samplesFit P) (R ∷ []) (eq-eqb _ _ (d .if2 .left ∙ d .before .area .ensures .0))
-          ∙ given R [] (lt-ltb (a .places) (a .w * a .h) (omega (arith, c .if3 .taken, d .before .area .ensures .0)))),
-      λ z. absurd (omega arith),
-    )
-
-returns-4 : tie.Need-returns-4
-returns-4 c =
-    let d = c .before in
-    let s = d .before .before .before .before .before in
-    let a = s .args in
-    let P = picture (a .w) (a .h) (a .px .now) in
-    let R = row 9 (ltb (a .places) (a .w * a .h)) in
-    let t = sym (d .before .before .before .sides-fit .ensures) ∙ not-false _ (d .before .before .if1 .left) in (
-      sym
-          (fit 1 (sideFits (a .w) && sideFits (a .h)) (samplesRow P ∷ R ∷ []) t
-          ∙ fit 2 (samplesFit P) (R ∷ []) (eq-eqb _ _ (d .if2 .left ∙ d .before .area .ensures .0))
-          ∙ passed R [] (le-ltb (a .places) (a .w * a .h) (omega (arith, c .if3 .left, d .before .area .ensures .0)))),
-      λ z. (sides-in _ _ t, d .if2 .left ∙ d .before .area .ensures .0, omega (arith, c .if3 .left, d .before .area .ensures .0)),
-    )
+    let a = c .before .before .before .before .before .before .args in
+    let S = shaped (picture (a .w) (a .h) (a .px .now)) (ap (λ (v : Verdict). v .number) (sym (c .before .before .before .before .shape-verdict .ensures)) ∙ c .before .before .if1 .left) in
+    let v = (rw (c .before .area .ensures .0) at (c .row-verdict .ensures)) in
+    (gone-on (shapeRows (picture (a .w) (a .h) (a .px .now))) ((row 9 (ltb (a .places) (a .w * a .h))) ∷ []) _ _ refl (c .before .before .before .before .shape-verdict .ensures) (c .before .before .if1 .left) v, λ z. (S .sides, S .whole, ltb-false (a .places) (a .w * a .h) (clean (row 9 (ltb (a .places) (a .w * a .h))) [] (λ y. omega arith) (ap (λ (y : Verdict). y .number) (sym v) ∙ z) .0)))
 
 pub frame-verdict-spec : {M : Type 1} → statement M
 frame-verdict-spec =
-    tie.close (tie.spec sides-fit-requires returns area-requires returns-2 returns-3 returns-4)
+    tie.close
+    (tie.spec shape-verdict-requires returns area-requires row-verdict-requires returns-2)

@@ -1,121 +1,62 @@
--- `paint::paint_verdict` meets its contract, one row after the other. Assumes nothing.
-use mathlib.Core.Path.{sym, ap, _∙_}
-use mathlib.Core.Bool.{_&&_}
+-- `paint::paint_verdict` meets its contract: 1 3, then 8, then 9. Assumes nothing.
+use mathlib.Core.Path.{refl, sym, ap, _∙_}
 use mathlib.Core.List.{[], _∷_}
-use Prim.Native.Nat.{ℕ, _*_}
+use Prim.Native.Nat.{_*_}
 use native.Mathlib.Omega.{arith}
-use borrow.Author.Needs.{needs}
-use borrow.Author.Tests.{lt-ltb, le-ltb, not-true, not-false}
 use lib.Dec.{ltb}
-use lib.ListN.{length}
+use borrow.Author.Tests.{ltb-false}
 use Rattle.matte.specs.Layout.{eight}
-use Rattle.matte.specs.Picture.{sideFits, levelsFit}
-use Rattle.refuse.specs.Refusal.{row, levelsRow}
-use Rattle.refuse.proofs.Rows.{fit, unfit, given, passed}
+use Rattle.refuse.specs.declared.Verdict.{Verdict}
+use Rattle.refuse.specs.Refusal.{row}
+use Rattle.refuse.specs.Shape.{sizeRows}
+use Rattle.refuse.proofs.Rows.{stopped, gone-on, clean}
+use Rattle.refuse.proofs.Sides.{of-size}
 use Rattle.words.specs.Fit.{wordsFitRow}
-use Rattle.refuse.proofs.Sides.{sides-in}
+use borrow.Author.Needs.{needs}
 use Rattle.paint.proofs.paint_verdict.Statement.{statement}
 use Rattle.paint.proofs.paint_verdict.Tie as tie
 
-sides-fit-requires : tie.Need-sides-fit-requires
-sides-fit-requires c κs = search needs
+size-verdict-requires : tie.Need-size-verdict-requires
+size-verdict-requires c κs = search needs
 
 returns : tie.Need-returns
-returns c =
-    let a = c .before .before .before .before .args in
-    let W = wordsFitRow eight (a .w) (a .h) (a .levels .now) (a .words .now) in
-    let R = row 9 (ltb (a .places) (a .w * a .h)) in (
-      sym (unfit 1 (sideFits (a .w) && sideFits (a .h)) (levelsRow eight (a .levels .now) ∷ W ∷ R ∷ []) (sym (c .before .sides-fit .ensures) ∙ not-true _ (c .if1 .taken))),
-      λ z. absurd (omega arith),
-    )
+returns c = let a = c .before .before .before .before .before .args in (stopped (sizeRows eight (a .w) (a .h) (a .levels .now)) ((wordsFitRow eight (a .w) (a .h) (a .levels .now) (a .words .now)) ∷ (row 9 (ltb (a .places) (a .w * a .h))) ∷ []) _ (c .before .before .size-verdict .ensures) (c .if1 .taken), λ z. absurd (c .if1 .taken z))
 
-levels-fit-requires : tie.Need-levels-fit-requires
-levels-fit-requires c κs = search needs
+first-bad-word-requires : tie.Need-first-bad-word-requires
+first-bad-word-requires c κs = let a = c .before .before .before .before .before .args in of-size eight (a .w) (a .h) (a .levels .now) (ap (λ (v : Verdict). v .number) (sym (c .before .before .size-verdict .ensures)) ∙ c .if1 .left) .0
+
+row-verdict-requires : tie.Need-row-verdict-requires
+row-verdict-requires c κs = search needs
 
 returns-2 : tie.Need-returns-2
 returns-2 c =
-    let d = c in
-    let a = d .before .before .before .before .before .before .args in
-    let W = wordsFitRow eight (a .w) (a .h) (a .levels .now) (a .words .now) in
-    let R = row 9 (ltb (a .places) (a .w * a .h)) in
-    let t = sym (d .before .before .before .sides-fit .ensures) ∙ not-false _ (d .before .before .if1 .left) in
-    let first = fit 1 (sideFits (a .w) && sideFits (a .h)) (levelsRow eight (a .levels .now) ∷ W ∷ R ∷ []) t in (
-      sym (first ∙ unfit 3 (levelsFit eight (a .levels .now)) (W ∷ R ∷ []) (sym (c .before .levels-fit .ensures) ∙ not-true _ (c .if2 .taken))),
-      λ z. absurd (omega arith),
-    )
+    let a = c .before .before .before .before .before .before .before .before .before .args in
+    (gone-on (sizeRows eight (a .w) (a .h) (a .levels .now)) ((wordsFitRow eight (a .w) (a .h) (a .levels .now) (a .words .now)) ∷ (row 9 (ltb (a .places) (a .w * a .h))) ∷ []) _ _ refl (c .before .before .before .before .before .before .size-verdict .ensures) (c .before .before .before .before .if1 .left) (stopped ((wordsFitRow eight (a .w) (a .h) (a .levels .now) (a .words .now)) ∷ []) ((row 9 (ltb (a .places) (a .w * a .h))) ∷ []) _ (rw (c .before .before .before .first-bad-word .ensures) at (c .before .before .row-verdict .ensures)) (c .if2 .taken)), λ z. absurd (c .if2 .taken z))
 
-first-bad-word-requires : tie.Need-first-bad-word-requires
-first-bad-word-requires c κs = sides-in _ _ (sym (c .before .before .before .sides-fit .ensures) ∙ not-false _ (c .before .before .if1 .left))
+area-requires : tie.Need-area-requires
+area-requires c κs = let a = c .before .before .before .before .before .before .before .before .before .args in of-size eight (a .w) (a .h) (a .levels .now) (ap (λ (v : Verdict). v .number) (sym (c .before .before .before .before .before .before .size-verdict .ensures)) ∙ c .before .before .before .before .if1 .left) .0
+
+row-verdict-requires-2 : tie.Need-row-verdict-requires-2
+row-verdict-requires-2 c κs = search needs
 
 returns-3 : tie.Need-returns-3
 returns-3 c =
-    let d = c .before .before in
-    let a = d .before .before .before .before .before .before .args in
-    let W = wordsFitRow eight (a .w) (a .h) (a .levels .now) (a .words .now) in
-    let R = row 9 (ltb (a .places) (a .w * a .h)) in
-    let t = sym (d .before .before .before .sides-fit .ensures) ∙ not-false _ (d .before .before .if1 .left) in
-    let first = fit 1 (sideFits (a .w) && sideFits (a .h)) (levelsRow eight (a .levels .now) ∷ W ∷ R ∷ []) t in
-    let u = sym (d .before .levels-fit .ensures) ∙ not-false _ (d .if2 .left) in
-    let second = fit 3 (levelsFit eight (a .levels .now)) (W ∷ R ∷ []) u in
-    let e = c .before .first-bad-word .ensures in (
-      sym
-          (first ∙ second
-          ∙ given W (R ∷ []) (ap (λ (z : ℕ). ltb z (length (a .words .now))) (sym e) ∙ lt-ltb _ _ (c .if3 .taken))
-          ∙ ap (λ (z : ℕ). record { number = 8; place = z }) (sym e)),
-      λ z. absurd (omega arith),
-    )
-
-area-requires : tie.Need-area-requires
-area-requires c κs = sides-in _ _ (sym (c .before .before .before .before .before .sides-fit .ensures) ∙ not-false _ (c .before .before .before .before .if1 .left))
-
-returns-4 : tie.Need-returns-4
-returns-4 c =
-    let d = c .before .before .before .before in
-    let a = d .before .before .before .before .before .before .args in
-    let W = wordsFitRow eight (a .w) (a .h) (a .levels .now) (a .words .now) in
-    let R = row 9 (ltb (a .places) (a .w * a .h)) in
-    let t = sym (d .before .before .before .sides-fit .ensures) ∙ not-false _ (d .before .before .if1 .left) in
-    let first = fit 1 (sideFits (a .w) && sideFits (a .h)) (levelsRow eight (a .levels .now) ∷ W ∷ R ∷ []) t in
-    let u = sym (d .before .levels-fit .ensures) ∙ not-false _ (d .if2 .left) in
-    let second = fit 3 (levelsFit eight (a .levels .now)) (W ∷ R ∷ []) u in
-    let e = c .before .before .before .first-bad-word .ensures in
-    let n = c .before .area in (
-      sym
-          (first ∙ second
-          ∙ passed W (R ∷ []) (ap (λ (z : ℕ). ltb z (length (a .words .now))) (sym e) ∙ le-ltb _ _ (c .before .before .if3 .left))
-          ∙ given R [] (lt-ltb (a .places) (a .w * a .h) (omega (arith, c .if4 .taken, n .ensures .0)))),
-      λ z. absurd (omega arith),
-    )
-
-returns-5 : tie.Need-returns-5
-returns-5 c =
-    let d = c .before .before .before .before in
-    let a = d .before .before .before .before .before .before .args in
-    let W = wordsFitRow eight (a .w) (a .h) (a .levels .now) (a .words .now) in
-    let R = row 9 (ltb (a .places) (a .w * a .h)) in
-    let t = sym (d .before .before .before .sides-fit .ensures) ∙ not-false _ (d .before .before .if1 .left) in
-    let first = fit 1 (sideFits (a .w) && sideFits (a .h)) (levelsRow eight (a .levels .now) ∷ W ∷ R ∷ []) t in
-    let u = sym (d .before .levels-fit .ensures) ∙ not-false _ (d .if2 .left) in
-    let second = fit 3 (levelsFit eight (a .levels .now)) (W ∷ R ∷ []) u in
-    let e = c .before .before .before .first-bad-word .ensures in
-    let n = c .before .area in (
-      sym
-          (first ∙ second
-          ∙ passed W (R ∷ []) (ap (λ (z : ℕ). ltb z (length (a .words .now))) (sym e) ∙ le-ltb _ _ (c .before .before .if3 .left))
-          ∙ passed R [] (le-ltb (a .places) (a .w * a .h) (omega (arith, c .if4 .left, n .ensures .0)))),
-      λ z. (sides-in _ _ t, u, omega (arith, c .if4 .left, n .ensures .0)),
+    let a = c .before .before .before .before .before .before .before .before .before .before .before .args in
+    let Z = of-size eight (a .w) (a .h) (a .levels .now) (ap (λ (v : Verdict). v .number) (sym (c .before .before .before .before .before .before .before .before .size-verdict .ensures)) ∙ c .before .before .before .before .before .before .if1 .left) in
+    let v = (rw (c .before .area .ensures .0) at (c .row-verdict2 .ensures)) in (
+      gone-on (sizeRows eight (a .w) (a .h) (a .levels .now)) ((wordsFitRow eight (a .w) (a .h) (a .levels .now) (a .words .now)) ∷ (row 9 (ltb (a .places) (a .w * a .h))) ∷ []) _ _ refl (c .before .before .before .before .before .before .before .before .size-verdict .ensures) (c .before .before .before .before .before .before .if1 .left) (gone-on ((wordsFitRow eight (a .w) (a .h) (a .levels .now) (a .words .now)) ∷ []) ((row 9 (ltb (a .places) (a .w * a .h))) ∷ []) _ _ refl (rw (c .before .before .before .before .before .first-bad-word .ensures) at (c .before .before .before .before .row-verdict .ensures)) (c .before .before .if2 .left) v),
+      λ z. (Z .0, Z .1, ltb-false (a .places) (a .w * a .h) (clean (row 9 (ltb (a .places) (a .w * a .h))) [] (λ y. omega arith) (ap (λ (y : Verdict). y .number) (sym v) ∙ z) .0)),
     )
 
 pub paint-verdict-spec : {M : Type 1} → statement M
 paint-verdict-spec =
     tie.close
     (tie.spec
-    sides-fit-requires
+    size-verdict-requires
     returns
-    levels-fit-requires
-    returns-2
     first-bad-word-requires
-    returns-3
+    row-verdict-requires
+    returns-2
     area-requires
-    returns-4
-    returns-5)
+    row-verdict-requires-2
+    returns-3)

@@ -9,3 +9,4 @@ pub mod Ring
 pub mod Surface
 pub mod Saddle
 pub mod Back
+pub mod Witness

@@ -3,6 +3,7 @@ pub mod Seen
 pub mod Edge
 pub mod Rounds
 pub mod Halves
+pub mod Digits
 pub mod Many
 pub mod Writes
 pub mod Sort

@@ -2,7 +2,7 @@
 -- Definitions: `Counting` what has been counted after row y's first sample.
 -- Main laws: `rows-le` where a row ends; `first-on`, `ends-on`, `last-on` the runs lie on the border; `begin`, `skip`, `go`, `end` the counts before, between and after the runs.
 use mathlib.Core.Path.{_≡_, sym, ap, _∙_}
-use mathlib.Core.Bool.{true}
+use mathlib.Core.Bool.{Bool, true}
 use mathlib.Core.List.{List}
 use Prim.Native.Nat.{ℕ, zero, _+_, _-_, _*_, _≤_, _<_}
 use native.Mathlib.Nat.{mul-le-mul-right}
@@ -11,19 +11,18 @@ use lib.Dec.{eqb, ltb}
 use lib.ListN.{replicate}
 use borrow.Author.Tests.{eqb-true, eqb-false, ltb-true, ltb-false}
 use Rattle.tally.proofs.Test.{by-test}
-use Rattle.matte.specs.Layout.{eight}
 use Rattle.matte.specs.Picture.{picture, onBorder}
 use Rattle.refuse.specs.Shape.{Sides}
 use Rattle.frame.specs.Frame.{borderSamples}
-use Rattle.frame.specs.Counts.{seen, histogram}
+use Rattle.frame.specs.Counts.{seen, counts}
 use Rattle.frame.proofs.Seen.{seen-none, seen-off, counts-none}
 use Rattle.frame.proofs.Edge.{on-top, on-bottom, on-left, on-right, off-middle}
 
-pub record Counting (w h : ℕ) (px t : List ℕ) (i y : ℕ) : Type 0 where
+pub record Counting (whole : Bool) (top w h : ℕ) (px t : List ℕ) (i y : ℕ) : Type 0 where
   pub some : 1 ≤ y
   pub within : y + 1 ≤ h
   pub where-at : i ≡ y * w + 1
-  pub counts : t ≡ histogram eight (seen (picture w h px) i)
+  pub held : t ≡ counts whole top (seen (picture w h px) i)
 
 module _ (w h : ℕ) (S : Sides w h) where
   pub rows-le : (y : ℕ) → y + 1 ≤ h → y * w + w ≤ w * h
@@ -45,29 +44,29 @@ module _ (w h : ℕ) (S : Sides w h) where
   pub last-on : (y i n j : ℕ) → y + 1 ≡ h → i ≡ y * w + 1 → n ≡ w * h → i ≤ j → j < n → onBorder w h j ≡ true
   last-on y i n j e s t p q = on-bottom w h y j e (omega arith) (let r : w * h ≡ w * (y + 1) = ap (λ (z : ℕ). w * z) (sym e) in omega arith)
 
-  module _ (px : List ℕ) where
-    pub begin : replicate 256 zero ≡ histogram eight (seen (picture w h px) 0)
-    begin = counts-none ∙ ap (histogram eight) (sym (seen-none (picture w h px)))
+  module _ (whole : Bool) (top : ℕ) (px : List ℕ) where
+    pub begin : replicate 16 zero ≡ counts whole top (seen (picture w h px) 0)
+    begin = counts-none whole top ∙ ap (counts whole top) (sym (seen-none (picture w h px)))
 
-    pub first : (t : List ℕ) → t ≡ histogram eight (seen (picture w h px) (w + 1)) → Counting w h px t (w + 1) 1
-    first t e = record { some = omega arith; within = omega (arith, S .h-least); where-at = omega arith; counts = e }
+    pub first : (t : List ℕ) → t ≡ counts whole top (seen (picture w h px) (w + 1)) → Counting whole top w h px t (w + 1) 1
+    first t e = record { some = omega arith; within = omega (arith, S .h-least); where-at = omega arith; held = e }
 
     -- the samples between the ends of row y are not on the border
-    pub skip : (t : List ℕ) (i y a : ℕ) → Counting w h px t i y → y + 1 < h → a ≡ i + w - 2 → t ≡ histogram eight (seen (picture w h px) a)
+    pub skip : (t : List ℕ) (i y a : ℕ) → Counting whole top w h px t i y → y + 1 < h → a ≡ i + w - 2 → t ≡ counts whole top (seen (picture w h px) a)
     skip t i y a C l s =
         let W : 2 ≤ w = S .w-least in
         let r : a ≡ i + (w - 2) = omega arith in
-        C .counts
-        ∙ ap (histogram eight)
+        C .held
+        ∙ ap (counts whole top)
         (sym
         (ap (seen (picture w h px)) r
         ∙ seen-off (picture w h px) i (w - 2) (λ j p q. off-middle w h y j (C .some) l (omega (arith, C .where-at)) (omega (arith, C .where-at)))))
 
-    pub go : (t e : List ℕ) (i y a : ℕ) → Counting w h px t i y → y + 1 < h → a ≡ i + w - 2 → e ≡ histogram eight (seen (picture w h px) (a + 2)) → Counting w h px e (a + 2) (y + 1)
+    pub go : (t e : List ℕ) (i y a : ℕ) → Counting whole top w h px t i y → y + 1 < h → a ≡ i + w - 2 → e ≡ counts whole top (seen (picture w h px) (a + 2)) → Counting whole top w h px e (a + 2) (y + 1)
     go t e i y a C l s q =
         let W : 2 ≤ w = S .w-least in
-        record { some = omega arith; within = omega arith; where-at = omega (arith, C .where-at); counts = q }
+        record { some = omega arith; within = omega arith; where-at = omega (arith, C .where-at); held = q }
 
-    pub end : (t : List ℕ) (n : ℕ) → n ≡ w * h → t ≡ histogram eight (seen (picture w h px) n) → t ≡ histogram eight (borderSamples (picture w h px))
+    pub end : (t : List ℕ) (n : ℕ) → n ≡ w * h → t ≡ counts whole top (seen (picture w h px) n) → t ≡ counts whole top (borderSamples (picture w h px))
     unfolding seen borderSamples
-    end t n e q = q ∙ ap (λ (z : ℕ). histogram eight (seen (picture w h px) z)) e
+    end t n e q = q ∙ ap (λ (z : ℕ). counts whole top (seen (picture w h px) z)) e

@@ -1,22 +1,43 @@
--- The border samples counted by value, and the median read from the counts. Assumes nothing.
--- Definitions: `seen` the border samples before a place; `histogram` how often each value stands in a list; `halfway` the first value that half of the counts do not exceed.
+-- The border samples counted by one half of the byte at a time, and the median's halves read from the counts. Assumes nothing.
+-- Definitions: `seen` the border samples before a place; `headOf`, `heads` the upper half of a sample, or all of it; `counts` how often each of 16 values stands among the heads; `under` how many heads are
+--   below a value; `halfway` the first entry of the counts up to which half are; `halves`, `halfFrom` the first of 16 values that half of the heads do not exceed.
+use mathlib.Core.Bool.{Bool, cond}
 use mathlib.Core.List.{List, [], _∷_}
-use Prim.Native.Nat.{ℕ, suc, _+_, _*_}
-use lib.Dec.{leb}
-use lib.ListN.{getD}
-use Rattle.tally.specs.Tally.{sum, build, count, firstFrom, flat, pick}
-use Rattle.matte.specs.Layout.{Layout}
+use Prim.Native.Nat.{ℕ, suc, _+_, _*_, _/_}
+use lib.Dec.{leb, ltb}
+use lib.ListN.{length, getD}
+use Rattle.tally.specs.Tally.{sum, build, count, tally, firstFrom, flat, pick}
 use Rattle.matte.specs.Picture.{Picture, at, onBorder}
 
 -- the border samples at places below i, row by row (01, Framing)
 unfoldable pub seen : Picture → ℕ → List ℕ
 seen P i = flat (pick (onBorder (P .w) (P .h)) (λ j. at P j ∷ []) 0 i)
 
-module _ (L : Layout) where
-  -- entry v says how often v stands in the list
-  unfoldable pub histogram : List ℕ → List ℕ
-  histogram l = build (λ v. count v l) 0 (L .most + 1)
+-- the sample, or its upper half (02, R-3)
+abbrev pub headOf : Bool → ℕ → ℕ
+headOf whole s = cond whole s (s / 16)
 
-  -- the first value v for which the entries up to v are at least half of n
-  unfoldable pub halfway : List ℕ → ℕ → ℕ
-  halfway t n = firstFrom (λ v. leb n (2 * sum (λ i. getD t i 0) (suc v))) 0 (L .most)
+-- the same for each of a list
+unfoldable pub heads : Bool → List ℕ → List ℕ
+heads whole [] = []
+heads whole (s ∷ l) = headOf whole s ∷ heads whole l
+
+-- entry d says how often 16·top + d stands among the heads (02, R-3)
+unfoldable pub counts : Bool → ℕ → List ℕ → List ℕ
+counts whole top l = build (λ v. count v (heads whole l)) (16 * top) 16
+
+-- how many heads are below v
+unfoldable pub under : Bool → List ℕ → ℕ → ℕ
+under whole l v = tally (λ s. ltb s v) (heads whole l)
+
+-- the first of 16 entries up to which at least half of n are, `below` of them before the first
+unfoldable pub halfway : List ℕ → ℕ → ℕ → ℕ
+halfway t below n = firstFrom (λ d. leb n (2 * (below + sum (λ i. getD t i 0) (suc d)))) 0 15
+
+-- at least half of n, of the list, do not exceed v
+abbrev pub halves : ℕ → List ℕ → ℕ → Bool
+halves n m v = leb n (2 * tally (λ s. leb s v) m)
+
+-- the first of the 16 values from 16·top on that at least half of the heads do not exceed (02, R-3)
+unfoldable pub halfFrom : Bool → ℕ → List ℕ → ℕ
+halfFrom whole top l = firstFrom (halves (length l) (heads whole l)) (16 * top) 15

@@ -8,67 +8,122 @@ ghost use mathlib.Core.Path.{_≡_};
 ghost use mathlib.Core.Bool.{true};
 ghost use mathlib.Core.List.{List, [], _∷_};
 ghost use Prim.Native.Nat.{ℕ, _+_, _*_, _≤_, _<_};
-ghost use lib.Dec.{ltb};
+ghost use lib.Dec.{eqb, ltb};
 ghost use lib.ListN.{length, getD};
-ghost use Rattle.tally.specs.Tally.{sum};
+ghost use Rattle.tally.specs.Tally.{one, sum};
 ghost use Rattle.fill.specs.Filled.{Filled};
 ghost use Rattle.matte.specs.Layout.{eight};
 ghost use Rattle.matte.specs.Picture.{picture, onBorder};
 ghost use Rattle.refuse.specs.Refusal.{row, verdict, sidesRow, samplesRow};
 ghost use Rattle.refuse.specs.Shape.{Sides};
 ghost use Rattle.frame.specs.Frame.{borderSamples, median, frameAnswer, frameRoom};
-ghost use Rattle.frame.specs.Counts.{seen, histogram, halfway};
+ghost use Rattle.frame.specs.Counts.{seen, headOf, counts, under, halfway, halfFrom};
 ghost use Rattle.frame.specs.Framing.{framing};
 
-// Counts in the samples from `from` up to `to`, all of them on the border.
-fn count_run(w: usize, h: usize, px: &[u8], from: usize, to: usize, t: &mut [u32; 256])
-    requires { ⌜ (length (now px) ≤ 4194304) × (from ≤ to) × (to ≤ length (now px)) × (now t ≡ histogram eight (seen (picture w h (now px)) from)) × ((j : ℕ) → from ≤ j → j < to → onBorder w h j ≡ true) ⌝ }
-    ensures { λ _. ⌜ now (t .exit) ≡ histogram eight (seen (picture w h (now (px .entry))) to) ⌝ }
+// What a search for the half found: the value, and how many samples are below it.
+struct Found {
+    value: usize,
+    below: u32,
+}
+
+// The sample, or its upper half.
+fn head_of(s: u8, whole: bool) -> usize
+    ensures { λ r. ⌜ r ≡ headOf whole s ⌝ }
+{
+    if whole {
+        return s as usize;
+    }
+    (s / 16) as usize
+}
+
+// 1 for equal numbers, else 0.
+fn one_if(a: usize, b: usize) -> u32
+    ensures { λ r. ⌜ (r ≡ one (eqb a b)) × (r ≤ 1) ⌝ }
+{
+    if a == b {
+        return 1;
+    }
+    0
+}
+
+// Counts in the samples from `from` up to `to`, all of them on the border: those whose head is one of the 16 values from 16·top on.
+fn count_run(
+    w: usize,
+    h: usize,
+    px: &[u8],
+    whole: bool,
+    top: usize,
+    from: usize,
+    to: usize,
+    t: &mut [u32; 16],
+)
+    requires { ⌜ (length (now px) ≤ 4194304) × (from ≤ to) × (to ≤ length (now px)) × (now t ≡ counts whole top (seen (picture w h (now px)) from)) × ((j : ℕ) → from ≤ j → j < to → onBorder w h j ≡ true) ⌝ }
+    ensures { λ _. ⌜ now (t .exit) ≡ counts whole top (seen (picture w h (now (px .entry))) to) ⌝ }
 {
     let mut i = from;
     while i < to {
-        let v = px[i] as usize;
-        t[v] = t[v] + 1;
+        let q = head_of(px[i], whole);
+        let d = q % 16;
+        t[d] = t[d] + one_if(q / 16, top);
         i += 1;
     }
 }
 
-// How often each value stands on the border: the first row and what follows, two ends of rows at a time, the rest of the last row.
-fn border_counts(w: usize, h: usize, px: &[u8]) -> [u32; 256]
+// How often each of 16 values is a head on the border: the first row and what follows, two ends of rows at a time, the rest of the last row.
+fn border_counts(w: usize, h: usize, px: &[u8], whole: bool, top: usize) -> [u32; 16]
     requires { ⌜ (Sides w h) × (length (now px) ≡ w * h) ⌝ }
-    ensures { λ r. ⌜ r ≡ histogram eight (borderSamples (picture w h (now (px .entry)))) ⌝ }
+    ensures { λ r. ⌜ r ≡ counts whole top (borderSamples (picture w h (now (px .entry)))) ⌝ }
 {
     let n = area(w, h);
-    let mut t = [0u32; 256];
+    let mut t = [0u32; 16];
     let mut upto = w + 1;
     let mut y = 1;
-    count_run(w, h, px, 0, upto, &mut t);
+    count_run(w, h, px, whole, top, 0, upto, &mut t);
     while y + 1 < h {
         let a = upto + w - 2;
         upto = a + 2;
         y += 1;
-        count_run(w, h, px, a, upto, &mut t);
+        count_run(w, h, px, whole, top, a, upto, &mut t);
     }
-    count_run(w, h, px, n - w + 1, n, &mut t);
+    count_run(w, h, px, whole, top, n - w + 1, n, &mut t);
     t
 }
 
-// The first value that at least half of n do not exceed, from how often each value stands.
-fn middle(t: &[u32; 256], n: u32) -> u8
-    requires { ⌜ sum (λ i. getD (now t) i 0) 256 ≤ 4194304 ⌝ }
-    ensures { λ r. ⌜ r ≡ halfway eight (now (t .entry)) n ⌝ }
+// The first of 16 entries up to which at least half of n are, `below` of them before the first.
+fn middle(t: &[u32; 16], below: u32, n: u32) -> Found
+    requires { ⌜ below + sum (λ i. getD (now t) i 0) 16 ≤ 4194304 ⌝ }
+    ensures { λ r. ⌜ (r .value ≡ halfway (now (t .entry)) below n) × (r .below ≡ below + sum (λ i. getD (now (t .entry)) i 0) (r .value)) ⌝ }
 {
-    let mut below: u32 = 0;
-    let mut v: u8 = 0;
-    while v < 255 {
-        let i = v as usize;
-        below += t[i];
-        if n <= 2 * below {
-            return v;
+    let mut upto = below;
+    let mut d = 0;
+    while d < 15 {
+        let next = upto + t[d];
+        if n <= 2 * next {
+            return Found {
+                value: d,
+                below: upto,
+            };
         }
-        v += 1;
+        upto = next;
+        d += 1;
     }
-    v
+    Found {
+        value: d,
+        below: upto,
+    }
+}
+
+// The first of the 16 values from 16·top on that at least half of the heads on the border do not exceed, `below` of them below 16·top.
+fn half_from(w: usize, h: usize, px: &[u8], whole: bool, top: usize, below: u32) -> Found
+    requires { ⌜ (Sides w h) × (length (now px) ≡ w * h) × (top ≤ 15) × (below ≡ under whole (borderSamples (picture w h (now px))) (16 * top)) ⌝ }
+    ensures { λ r. ⌜ (r .value ≡ halfFrom whole top (borderSamples (picture w h (now (px .entry))))) × (r .below ≡ under whole (borderSamples (picture w h (now (px .entry)))) (r .value)) ⌝ }
+{
+    let t = border_counts(w, h, px, whole, top);
+    let f = middle(&t, below, (2 * (w + h) - 4) as u32);
+    Found {
+        value: 16 * top + f.value,
+        below: f.below,
+    }
 }
 
 // The lower median of the border samples.
@@ -76,8 +131,9 @@ fn border_median(w: usize, h: usize, px: &[u8]) -> u8
     requires { ⌜ (Sides w h) × (length (now px) ≡ w * h) ⌝ }
     ensures { λ r. ⌜ r ≡ median eight (borderSamples (picture w h (now (px .entry)))) ⌝ }
 {
-    let t = border_counts(w, h, px);
-    middle(&t, (2 * (w + h) - 4) as u32)
+    let u = half_from(w, h, px, false, 0, 0);
+    let v = half_from(w, h, px, true, u.value, u.below);
+    v.value as u8
 }
 
 // Writes v from `from` up to `stop`.

@@ -8,10 +8,10 @@ use Rattle.frame.proofs.border_counts.Statement.{statement}
 use Rattle.frame.proofs.border_counts.Tie as tie
 
 abbrev Inv-loop : tie.InvT-loop
-Inv-loop w h px n t₀ upto₀ y₀ t upto y = Counting w h px t upto y
+Inv-loop w h px whole top n t₀ upto₀ y₀ t upto y = Counting whole top w h px t upto y
 
 abbrev μ-loop : tie.MeasureT-loop
-μ-loop w h px n t₀ upto₀ y₀ t upto y = h - y
+μ-loop w h px whole top n t₀ upto₀ y₀ t upto y = h - y
 
 area-requires : tie.Need-area-requires Inv-loop μ-loop
 area-requires c κs = search needs
@@ -27,12 +27,12 @@ count-run-requires c κs =
       omega (arith, s .pre .1, n .ensures .0, n .ensures .1),
       omega arith,
       omega (arith, s .pre .1, rows-le _ _ S 1 (S .h-least), S .w-least),
-      begin _ _ S _,
+      begin _ _ S _ _ _,
       first-on _ _ S,
     )
 
 loop-holds : tie.Need-loop-holds Inv-loop μ-loop
-loop-holds c = first _ _ (c .before .before .before .before .pre .0) _ _ (c .count-run .ensures)
+loop-holds c = first _ _ (c .before .before .before .before .pre .0) _ _ _ _ (c .count-run .ensures)
 
 add-loop : tie.Need-add-loop Inv-loop μ-loop
 add-loop c = omega (arith, c .loop .inv .within, c .before .before .before .before .before .pre .0 .h-most)
@@ -76,7 +76,7 @@ count-run-requires-2 c κs =
       omega (arith, s .pre .1, n .ensures .0, n .ensures .1),
       omega arith,
       omega (arith, s .pre .1, rows-le _ _ S (l .loop .y + 1) k, S .w-least),
-      skip _ _ S _ _ _ _ _ (l .loop .inv) (c .before .loop-test .taken) refl,
+      skip _ _ S _ _ _ _ _ _ _ (l .loop .inv) (c .before .loop-test .taken) refl,
       λ j p q. ends-on _ _ S (l .loop .y) a j e p q,
     )
 
@@ -89,7 +89,7 @@ loop-again c =
     let s = l .before .before .before .before .before in
     let n = l .before .before .before .area in
     let S = s .pre .0 in
-    go _ _ S _ _ _ _ _ _ (l .loop .inv) (c .before .before .loop-test .taken) refl (c .count-run2 .ensures)
+    go _ _ S _ _ _ _ _ _ _ _ (l .loop .inv) (c .before .before .loop-test .taken) refl (c .count-run2 .ensures)
 
 sub-count-run : tie.Need-sub-count-run Inv-loop μ-loop
 sub-count-run c =
@@ -115,7 +115,7 @@ count-run-requires-3 c κs =
       omega (arith, s .pre .1, n .ensures .0, n .ensures .1),
       omega (arith, rows-le _ _ S (l .loop .y) (l .loop .inv .within), n .ensures .0, S .w-least),
       omega (arith, s .pre .1, n .ensures .0),
-      rw f at (l .loop .inv .counts),
+      rw f at (l .loop .inv .held),
       λ j p q. last-on _ _ S (l .loop .y) (l .loop .upto) _ j e (l .loop .inv .where-at) (n .ensures .0) (omega arith) q,
     )
 
@@ -125,7 +125,7 @@ returns c =
     let s = l .before .before .before .before .before in
     let n = l .before .before .before .area in
     let S = s .pre .0 in
-    end _ _ S _ _ _ (n .ensures .0) (c .count-run3 .ensures)
+    end _ _ S _ _ _ _ _ (n .ensures .0) (c .count-run3 .ensures)
 
 pub border-counts-spec : {M : Type 1} → statement M
 border-counts-spec =

@@ -1,60 +1,44 @@
--- `frame::border_median` meets its contract: the half of the counts is the median. Assumes nothing.
-use mathlib.Core.Path.{_≡_, sym, ap, _∙_}
-use mathlib.Core.List.{List}
-use Prim.Native.Nat.{ℕ, _+_, _-_, _*_}
+-- `frame::border_median` meets its contract: the two searches find the median. Assumes nothing.
+use mathlib.Core.Path.{ap, _∙_}
+use mathlib.Core.Bool.{true, false}
+use Prim.Native.Nat.{ℕ}
 use native.Mathlib.Omega.{arith}
-use borrow.Author.Needs.{needs}
-use lib.ListN.{length}
-use Rattle.matte.specs.Layout.{eight}
 use Rattle.matte.specs.Picture.{picture}
 use Rattle.frame.specs.Frame.{borderSamples}
-use Rattle.frame.specs.Counts.{histogram, halfway}
-use Rattle.frame.proofs.Many.{border-many}
-use Rattle.frame.proofs.Halves.{half-is, counts-sum}
+use Rattle.frame.specs.Counts.{halfFrom}
+use Rattle.frame.proofs.Halves.{under-none}
+use Rattle.frame.proofs.Digits.{upper-under, half-le, median-halves}
 use Rattle.frame.proofs.border_median.Statement.{statement}
 use Rattle.frame.proofs.border_median.Tie as tie
 
-border-counts-requires : tie.Need-border-counts-requires
-border-counts-requires c κs = search needs
-
-add-middle : tie.Need-add-middle
-add-middle c = search needs
-
-mul-middle : tie.Need-mul-middle
-mul-middle c = search needs
-
-sub-middle : tie.Need-sub-middle
-sub-middle c = search needs
-
-cast-middle : tie.Need-cast-middle
-cast-middle c = search needs
-
-middle-requires : tie.Need-middle-requires
-middle-requires c κs =
-    let s = c .before .before .before in
+half-from-requires : tie.Need-half-from-requires
+half-from-requires c κs =
+    let s = c .before in
     let a = s .args in
     let l = borderSamples (picture (a .w) (a .h) (a .px .now)) in
-    let e : length l ≡ 2 * (a .w + a .h) - 4 = border-many _ _ (s .pre .0) _ in
-    rw (c .before .border-counts .ensures) (omega (arith, counts-sum l, s .pre .0 .w-most, s .pre .0 .h-most))
+    (s .pre .0, s .pre .1, omega arith, under-none false l)
+
+half-from-requires-2 : tie.Need-half-from-requires-2
+half-from-requires-2 c κs =
+    let s = c .before .before in
+    let a = s .args in
+    let l = borderSamples (picture (a .w) (a .h) (a .px .now)) in
+    let u = c .half-from in
+    (s .pre .0, s .pre .1, omega (arith, u .ensures .0, half-le false 0 l), u .ensures .1 ∙ upper-under l (u .result .value))
+
+cast-result : tie.Need-cast-result
+cast-result c =
+    let a = c .before .before .before .before .args in
+    let l = borderSamples (picture (a .w) (a .h) (a .px .now)) in
+    let u = c .before .before .half-from in
+    omega (arith, u .ensures .0, half-le false 0 l, c .before .half-from2 .ensures .0, half-le true (u .result .value) l)
 
 returns : tie.Need-returns
 returns c =
-    let s = c .before .before .before .before in
-    let a = s .args in
+    let a = c .before .before .before .before .args in
     let l = borderSamples (picture (a .w) (a .h) (a .px .now)) in
-    c .middle .ensures
-    ∙ ap (λ (t : List ℕ). halfway eight t (2 * (a .w + a .h) - 4)) (c .before .before .border-counts .ensures)
-    ∙ ap (halfway eight (histogram eight l)) (sym (border-many _ _ (s .pre .0) (a .px .now)))
-    ∙ half-is l
+    c .before .half-from2 .ensures .0 ∙ ap (λ (z : ℕ). halfFrom true z l) (c .before .before .half-from .ensures .0) ∙ median-halves l
 
 pub border-median-spec : {M : Type 1} → statement M
 border-median-spec =
-    tie.close
-    (tie.spec
-    border-counts-requires
-    add-middle
-    mul-middle
-    sub-middle
-    cast-middle
-    middle-requires
-    returns)
+    tie.close (tie.spec half-from-requires half-from-requires-2 cast-result returns)

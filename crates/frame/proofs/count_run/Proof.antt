@@ -1,68 +1,77 @@
 -- `frame::count_run` meets its contract: the counts are those of the border samples passed. Assumes nothing.
 use mathlib.Core.Path.{_≡_, ap, _∙_}
-use Prim.Native.Nat.{ℕ, _≤_, _-_}
+use Prim.Native.Nat.{ℕ, _≤_, _<_, _-_, _%_}
+use native.Mathlib.Nat.{mod-lt}
 use native.Mathlib.Omega.{arith}
-use Rattle.matte.specs.Layout.{eight}
+use borrow.Author.Needs.{needs}
 use Rattle.matte.specs.Picture.{picture}
-use Rattle.frame.specs.Counts.{seen, histogram}
+use Rattle.frame.specs.Counts.{seen, counts}
 use Rattle.frame.proofs.Seen.{seen-more, entry-le}
 use Rattle.frame.proofs.count_run.Statement.{statement}
 use Rattle.frame.proofs.count_run.Tie as tie
 
 abbrev Inv-loop : tie.InvT-loop
-Inv-loop w h px from to t₀ i₀ t i =
-    (from ≤ i) × (i ≤ to) × (t ≡ histogram eight (seen (picture w h px) i))
+Inv-loop w h px whole top from to t₀ i₀ t i =
+    (from ≤ i) × (i ≤ to) × (t ≡ counts whole top (seen (picture w h px) i))
 
 abbrev μ-loop : tie.MeasureT-loop
-μ-loop w h px from to t₀ i₀ t i = to - i
+μ-loop w h px whole top from to t₀ i₀ t i = to - i
 
 loop-holds : tie.Need-loop-holds Inv-loop μ-loop
-loop-holds c = (omega arith, c .pre .1, c .pre .3)
+loop-holds c = (omega arith, c .before .pre .1, c .before .pre .3)
 
-shared-slice-read-v : tie.Need-shared-slice-read-v Inv-loop μ-loop
-shared-slice-read-v c = omega (arith, c .before .before .before .pre .2)
+shared-slice-read-head-of : tie.Need-shared-slice-read-head-of Inv-loop μ-loop
+shared-slice-read-head-of c = omega (arith, c .before .before .before .before .pre .2)
 
-cast-v : tie.Need-cast-v Inv-loop μ-loop
-cast-v c = omega (arith, c .shared-slice-known .given (c .before .before .loop .i))
+head-of-requires : tie.Need-head-of-requires Inv-loop μ-loop
+head-of-requires c κs = search needs
 
 mul-t : tie.Need-mul-t Inv-loop μ-loop
-mul-t c = omega (arith, c .shared-slice-known .given (c .before .before .loop .i))
+mul-t c = omega arith
 
 element-copy-out-t : tie.Need-element-copy-out-t Inv-loop μ-loop
-element-copy-out-t c = omega (arith, c .shared-slice-known .given (c .before .before .loop .i))
+element-copy-out-t c = omega arith
+
+one-if-requires : tie.Need-one-if-requires Inv-loop μ-loop
+one-if-requires c κs = search needs
 
 add-t : tie.Need-add-t Inv-loop μ-loop
 add-t c =
-    let l = c .before .before .before in
-    let a = l .before .args in
-    omega (arith, entry-le (picture (a .w) (a .h) (a .px .now)) _ _ _ (l .loop .inv .2) (c .before .shared-slice-known .given (l .loop .i) .fits), l .before .pre .0, l .before .pre .2)
+    let l = c .before .before .before .before .before in
+    let s = l .before .before in
+    let a = s .args in
+    let q = c .before .before .head-of .result in
+    let m : q % 16 < 16 = mod-lt q (omega arith) in
+    omega (arith, entry-le (a .whole) (a .top) (picture (a .w) (a .h) (a .px .now)) _ _ _ (l .loop .inv .2) m, c .one-if .ensures .1, s .pre .0, s .pre .2)
 
 mul-t-2 : tie.Need-mul-t-2 Inv-loop μ-loop
-mul-t-2 c = omega (arith, c .before .shared-slice-known .given (c .before .before .before .loop .i))
+mul-t-2 c = omega arith
 
 element-write-t : tie.Need-element-write-t Inv-loop μ-loop
-element-write-t c = omega (arith, c .before .shared-slice-known .given (c .before .before .before .loop .i))
+element-write-t c = omega arith
 
 add-i : tie.Need-add-i Inv-loop μ-loop
-add-i c = omega (arith, c .before .before .before .before .pre .0, c .before .before .before .before .pre .2)
+add-i c =
+    let s = c .before .before .before .before .before .before .before in omega (arith, s .pre .0, s .pre .2)
 
 loop-less : tie.Need-loop-less Inv-loop μ-loop
 loop-less c = omega arith
 
 loop-again : tie.Need-loop-again Inv-loop μ-loop
 loop-again c =
-    let l = c .before .before .before in
-    let a = l .before .args in (
+    let l = c .before .before .before .before .before in
+    let s = l .before .before in
+    let a = s .args in (
       omega arith,
       omega arith,
-      seen-more (picture (a .w) (a .h) (a .px .now)) _ _ (l .before .pre .4 (l .loop .i) (l .loop .inv .0) (c .before .before .loop-test .taken)) (c .before .shared-slice-known .given (l .loop .i) .fits) (l .loop .inv .2),
+      seen-more (a .whole) (a .top) (picture (a .w) (a .h) (a .px .now)) _ _ _ _ (s .pre .4 (l .loop .i) (l .loop .inv .0) (c .before .before .before .before .loop-test .taken)) (c .before .before .head-of .ensures) (c .one-if .ensures .0) (l .loop .inv .2),
     )
 
 returns : tie.Need-returns Inv-loop μ-loop
 returns c =
-    let a = c .before .before .args in
+    let a = c .before .before .before .args in
     let e : c .before .loop .i ≡ a .to = omega arith in
-    c .before .loop .inv .2 ∙ ap (λ (z : ℕ). histogram eight (seen (picture (a .w) (a .h) (a .px .now)) z)) e
+    c .before .loop .inv .2 ∙ ap (λ (z : ℕ). counts (a .whole) (a .top) (seen (picture (a .w) (a .h) (a .px .now)) z)) e
 
 pub count-run-spec : {M : Type 1} → statement M
 count-run-spec =
@@ -71,10 +80,11 @@ count-run-spec =
     Inv-loop
     μ-loop
     loop-holds
-    shared-slice-read-v
-    cast-v
+    shared-slice-read-head-of
+    head-of-requires
     mul-t
     element-copy-out-t
+    one-if-requires
     add-t
     mul-t-2
     element-write-t

@@ -1,4 +1,4 @@
--- `frame::middle` meets its contract: half was not reached at any value passed. Assumes nothing.
+-- `frame::middle` meets its contract: half was not reached at any entry passed. Assumes nothing.
 use Prim.Native.Nat.{_-_}
 use native.Mathlib.Omega.{arith}
 use Rattle.frame.proofs.Halves.{Below, begin, room-le, go, stop, end}
@@ -6,47 +6,46 @@ use Rattle.frame.proofs.middle.Statement.{statement}
 use Rattle.frame.proofs.middle.Tie as tie
 
 abbrev Inv-loop : tie.InvT-loop
-Inv-loop t n below₀ v₀ below v = Below t n below v
+Inv-loop t below n upto₀ d₀ upto d = Below t below n upto d
 
 abbrev μ-loop : tie.MeasureT-loop
-μ-loop t n below₀ v₀ below v = 255 - v
+μ-loop t below n upto₀ d₀ upto d = 15 - d
 
 loop-holds : tie.Need-loop-holds Inv-loop μ-loop
-loop-holds c = begin _ _
+loop-holds c = begin _ _ _
 
-cast-i : tie.Need-cast-i Inv-loop μ-loop
-cast-i c = omega arith
+mul-next : tie.Need-mul-next Inv-loop μ-loop
+mul-next c = omega arith
 
-mul-below : tie.Need-mul-below Inv-loop μ-loop
-mul-below c = omega arith
+element-copy-out-next : tie.Need-element-copy-out-next Inv-loop μ-loop
+element-copy-out-next c = omega arith
 
-element-copy-out-below : tie.Need-element-copy-out-below Inv-loop μ-loop
-element-copy-out-below c = omega arith
-
-add-below : tie.Need-add-below Inv-loop μ-loop
-add-below c =
+add-next : tie.Need-add-next Inv-loop μ-loop
+add-next c =
     let l = c .before .before in
-    omega (arith, room-le _ _ _ _ (l .loop .inv) (c .before .loop-test .taken) (l .before .pre))
+    omega (arith, room-le _ _ _ _ _ (l .loop .inv) (c .before .loop-test .taken) (l .before .pre))
 
 mul-if1 : tie.Need-mul-if1 Inv-loop μ-loop
 mul-if1 c =
     let l = c .before .before in
-    omega (arith, room-le _ _ _ _ (l .loop .inv) (c .before .loop-test .taken) (l .before .pre))
+    omega (arith, room-le _ _ _ _ _ (l .loop .inv) (c .before .loop-test .taken) (l .before .pre))
 
 returns : tie.Need-returns Inv-loop μ-loop
-returns c = stop _ _ _ _ (c .before .before .before .loop .inv) (c .before .before .loop-test .taken) (c .if1 .taken)
+returns c =
+    let B = c .before .before .before .loop .inv in
+    (stop _ _ _ _ _ B (c .before .before .loop-test .taken) (c .if1 .taken), B .sums)
 
-add-v : tie.Need-add-v Inv-loop μ-loop
-add-v c = omega arith
+add-d : tie.Need-add-d Inv-loop μ-loop
+add-d c = omega arith
 
 loop-less : tie.Need-loop-less Inv-loop μ-loop
 loop-less c = omega arith
 
 loop-again : tie.Need-loop-again Inv-loop μ-loop
-loop-again c = go _ _ _ _ (c .before .before .before .loop .inv) (c .before .before .loop-test .taken) (c .if1 .left)
+loop-again c = go _ _ _ _ _ (c .before .before .before .loop .inv) (c .before .before .loop-test .taken) (c .if1 .left)
 
 returns-2 : tie.Need-returns-2 Inv-loop μ-loop
-returns-2 c = end _ _ _ _ (c .before .loop .inv) (c .loop-test .left)
+returns-2 c = (end _ _ _ _ _ (c .before .loop .inv) (c .loop-test .left), c .before .loop .inv .sums)
 
 pub middle-spec : {M : Type 1} → statement M
 middle-spec =
@@ -55,13 +54,12 @@ middle-spec =
     Inv-loop
     μ-loop
     loop-holds
-    cast-i
-    mul-below
-    element-copy-out-below
-    add-below
+    mul-next
+    element-copy-out-next
+    add-next
     mul-if1
     returns
-    add-v
+    add-d
     loop-less
     loop-again
     returns-2)

@@ -1,21 +1,22 @@
 -- The border samples before a place, one place at a time, and the counts of their heads. Assumes nothing.
 -- Main laws: `seen-none`; `seen-on` a border place adds its sample; `seen-off` other places add nothing; `seen-long` there are at most as many as places; `counts-at` an entry of the counts;
---   `counts-more` one sample more; `seen-more` the two together; `entry-le` no entry is above the number of places.
+--   `counts-more` one sample more; `seen-more` the two together, `seen-same` for many places of one head; `entry-le` no entry is above the number of places.
 use mathlib.Core.Path.{_≡_, refl, sym, ap, _∙_}
 use mathlib.Core.Bool.{Bool, true, false}
 use mathlib.Core.List.{List, [], _∷_, _++_}
 use mathlib.Core.Logic.{_≢_}
-use Prim.Native.Nat.{ℕ, zero, suc, _+_, _*_, _/_, _%_, _≤_, _<_}
+use Prim.Native.Nat.{ℕ, zero, suc, _+_, _-_, _*_, _/_, _%_, _≤_, _<_}
 use native.Mathlib.Nat.{add-zero, add-suc, mod-lt, div-add-mod'}
 use native.Mathlib.Numerals.{add-one}
 use native.Mathlib.Omega.{arith}
 use lib.Arith.{digits-mod}
 use lib.Dec.{eqb}
 use lib.ListN.{length, getD, set, replicate, length-append, length-set, length-replicate, getD-replicate}
-use lib.Seq.{ext-getD, getD-set-same, getD-set-other}
+use lib.Seq.{ext-getD, getD-set-same, getD-set-other, set-getD, set-set}
 use borrow.Author.Tests.{eqb-true, eqb-false, eq-eqb, ne-eqb}
-use Rattle.tally.specs.Tally.{one, count, flat, pick}
+use Rattle.tally.specs.Tally.{one, every, count, flat, pick}
 use Rattle.tally.proofs.Test.{by-test, iff, one-le}
+use Rattle.tally.proofs.Every.{every-at}
 use Rattle.tally.proofs.Count.{count-append}
 use Rattle.tally.proofs.Pick.{pick-more, pick-still}
 use Rattle.tally.proofs.Build.{build-length, build-at}
@@ -68,6 +69,13 @@ heads-more : (whole : Bool) (l : List ℕ) (s : ℕ) → heads whole (l ++ (s �
 unfolding heads
 heads-more whole [] s = refl
 heads-more whole (x ∷ l) s = ap (λ (m : List ℕ). headOf whole x ∷ m) (heads-more whole l s)
+
+pub same-heads : (whole : Bool) (q from k : ℕ) (px : List ℕ) → every (λ j. eqb (headOf whole (getD px (from + j) 0)) q) k ≡ true
+    → (j : ℕ) → from ≤ j → j < from + k → q ≡ headOf whole (getD px j 0)
+same-heads whole q from k px e j a b =
+    let d : from + (j - from) ≡ j = omega arith in
+    sym (eqb-true (headOf whole (getD px (from + (j - from)) 0)) q (every-at (λ i. eqb (headOf whole (getD px (from + i) 0)) q) k e (j - from) (omega arith)))
+    ∙ ap (λ (z : ℕ). headOf whole (getD px z 0)) d
 
 -- ---- the counts
 count-long : (v : ℕ) (l : List ℕ) → count v l ≤ length l
@@ -141,6 +149,26 @@ module _ (whole : Bool) (top : ℕ) where
   pub seen-more : (P : Picture) (i q n : ℕ) (c : List ℕ) → onBorder (P .w) (P .h) i ≡ true → q ≡ headOf whole (at P i) → n ≡ one (eqb (q / 16) top) → c ≡ counts whole top (seen P i)
       → set c (q % 16) (getD c (q % 16) 0 + n) ≡ counts whole top (seen P (i + 1))
   seen-more P i q n c o e f r = rw (r, add-one i, seen-on P i o) (counts-more (seen P i) (at P i) q n e f)
+
+  -- k border places of one head, counted in at once
+  pub seen-same : (P : Picture) (i k q n : ℕ) (c : List ℕ) → ((j : ℕ) → i ≤ j → j < i + k → onBorder (P .w) (P .h) j ≡ true)
+      → ((j : ℕ) → i ≤ j → j < i + k → q ≡ headOf whole (at P j)) → n ≡ one (eqb (q / 16) top) → c ≡ counts whole top (seen P i)
+      → set c (q % 16) (getD c (q % 16) 0 + k * n) ≡ counts whole top (seen P (i + k))
+  seen-same P i zero q n c o e f r =
+      let s : getD c (q % 16) 0 + zero * n ≡ getD c (q % 16) 0 = omega arith in
+      ap (set c (q % 16)) s ∙ set-getD c (q % 16) 0 ∙ r ∙ ap (λ (z : ℕ). counts whole top (seen P z)) (sym (add-zero i))
+  seen-same P i (suc k) q n c o e f r =
+      let d = q % 16 in
+      let m : d < 16 = mod-lt q (omega arith) in
+      let x = getD c d 0 + k * n in
+      let s : set c d x ≡ counts whole top (seen P (i + k)) =
+      seen-same P i k q n c (λ j a b. o j a (omega arith)) (λ j a b. e j a (omega arith)) f r in
+      let v : x + n ≡ getD c d 0 + suc k * n = omega arith in
+      let g : getD (set c d x) d 0 ≡ x = getD-set-same c d x 0 (omega (arith, ap length r, counts-length (seen P i))) in
+      let z : i + k + 1 ≡ i + suc k = omega arith in
+      sym (ap (λ (y : ℕ). set (set c d x) d (y + n)) g ∙ set-set c d x (x + n) ∙ ap (set c d) v)
+      ∙ seen-more P (i + k) q n (set c d x) (o (i + k) (omega arith) (omega arith)) (e (i + k) (omega arith) (omega arith)) f s
+      ∙ ap (λ (y : ℕ). counts whole top (seen P y)) z
 
   -- so no entry is above the number of places passed
   pub entry-le : (P : Picture) (i d : ℕ) (c : List ℕ) → c ≡ counts whole top (seen P i) → d < 16 → getD c d 0 ≤ i

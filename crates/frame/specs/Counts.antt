@@ -1,13 +1,14 @@
 -- The border samples counted by one half of the byte at a time, and the median's halves read from the counts. Assumes nothing.
--- Definitions: `seen` the border samples before a place; `headOf`, `heads` the upper half of a sample, or all of it; `counts` how often each of 16 values stands among the heads; `under` how many heads are
+-- Definitions: `seen` the border samples before a place; `headOf`, `heads` the upper half of a sample, or all of it; `counts` how often each of 16 values stands among the heads; `Run` a run of border places to count; `under` how many heads are
 --   below a value; `halfway` the first entry of the counts up to which half are; `halves`, `halfFrom` the first of 16 values that half of the heads do not exceed.
-use mathlib.Core.Bool.{Bool, cond}
+use mathlib.Core.Path.{_≡_}
+use mathlib.Core.Bool.{Bool, true, cond}
 use mathlib.Core.List.{List, [], _∷_}
-use Prim.Native.Nat.{ℕ, suc, _+_, _*_, _/_}
+use Prim.Native.Nat.{ℕ, suc, _+_, _*_, _/_, _≤_, _<_}
 use lib.Dec.{leb, ltb}
 use lib.ListN.{length, getD}
 use Rattle.tally.specs.Tally.{sum, build, count, tally, firstFrom, flat, pick}
-use Rattle.matte.specs.Picture.{Picture, at, onBorder}
+use Rattle.matte.specs.Picture.{Picture, picture, at, onBorder}
 
 -- the border samples at places below i, row by row (01, Framing)
 unfoldable pub seen : Picture → ℕ → List ℕ
@@ -25,6 +26,14 @@ heads whole (s ∷ l) = headOf whole s ∷ heads whole l
 -- entry d says how often 16·top + d stands among the heads (02, R-3)
 unfoldable pub counts : Bool → ℕ → List ℕ → List ℕ
 counts whole top l = build (λ v. count v (heads whole l)) (16 * top) 16
+
+-- a run of border places from `from` up to `to`, with the counts of all border samples before it
+pub record Run (whole : Bool) (top w h : ℕ) (px : List ℕ) (from to : ℕ) (t : List ℕ) : Type 0 where
+  pub small : length px ≤ 4194304
+  pub order : from ≤ to
+  pub within : to ≤ length px
+  pub held : t ≡ counts whole top (seen (picture w h px) from)
+  pub border : (j : ℕ) → from ≤ j → j < to → onBorder w h j ≡ true
 
 -- how many heads are below v
 unfoldable pub under : Bool → List ℕ → ℕ → ℕ

@@ -10,34 +10,34 @@ ghost use mathlib.Core.List.{List, [], _∷_};
 ghost use Prim.Native.Nat.{ℕ, _+_, _*_, _≤_, _<_};
 ghost use lib.Dec.{eqb, ltb};
 ghost use lib.ListN.{length, getD};
-ghost use Rattle.tally.specs.Tally.{one, sum};
+ghost use Rattle.tally.specs.Tally.{one, every, sum};
 ghost use Rattle.fill.specs.Filled.{Filled};
 ghost use Rattle.matte.specs.Layout.{eight};
-ghost use Rattle.matte.specs.Picture.{picture, onBorder};
+ghost use Rattle.matte.specs.Picture.{picture};
 ghost use Rattle.refuse.specs.Refusal.{row, verdict, sidesRow, samplesRow};
 ghost use Rattle.refuse.specs.Shape.{Sides};
 ghost use Rattle.frame.specs.Frame.{borderSamples, median, frameAnswer, frameRoom};
-ghost use Rattle.frame.specs.Counts.{seen, headOf, counts, under, halfway, halfFrom};
+ghost use Rattle.frame.specs.Counts.{seen, headOf, counts, Run, under, halfway, halfFrom};
 ghost use Rattle.frame.specs.Framing.{framing};
 
 // What a search for the half found: the value, and how many samples are below it.
 struct Found {
-    value: usize,
+    value: u8,
     below: u32,
 }
 
 // The sample, or its upper half.
-fn head_of(s: u8, whole: bool) -> usize
+fn head_of(s: u8, whole: bool) -> u8
     ensures { λ r. ⌜ r ≡ headOf whole s ⌝ }
 {
     if whole {
-        return s as usize;
+        return s;
     }
-    (s / 16) as usize
+    s / 16
 }
 
 // 1 for equal numbers, else 0.
-fn one_if(a: usize, b: usize) -> u32
+fn one_if(a: u8, b: u8) -> u8
     ensures { λ r. ⌜ (r ≡ one (eqb a b)) × (r ≤ 1) ⌝ }
 {
     if a == b {
@@ -46,31 +46,90 @@ fn one_if(a: usize, b: usize) -> u32
     0
 }
 
-// Counts in the samples from `from` up to `to`, all of them on the border: those whose head is one of the 16 values from 16·top on.
+// Counts in a run, sample by sample: those whose head is one of the 16 values from 16·top on.
 fn count_run(
     w: usize,
     h: usize,
     px: &[u8],
     whole: bool,
-    top: usize,
+    top: u8,
     from: usize,
     to: usize,
     t: &mut [u32; 16],
 )
-    requires { ⌜ (length (now px) ≤ 4194304) × (from ≤ to) × (to ≤ length (now px)) × (now t ≡ counts whole top (seen (picture w h (now px)) from)) × ((j : ℕ) → from ≤ j → j < to → onBorder w h j ≡ true) ⌝ }
+    requires { ⌜ Run whole top w h (now px) from to (now t) ⌝ }
     ensures { λ _. ⌜ now (t .exit) ≡ counts whole top (seen (picture w h (now (px .entry))) to) ⌝ }
 {
     let mut i = from;
     while i < to {
         let q = head_of(px[i], whole);
-        let d = q % 16;
-        t[d] = t[d] + one_if(q / 16, top);
+        let d = (q % 16) as usize;
+        t[d] = t[d] + one_if(q / 16, top) as u32;
         i += 1;
     }
 }
 
+// Whether `count` samples from `from` on, at most 64, all have the head q.
+fn all_same(px: &[u8], whole: bool, q: u8, from: usize, count: usize) -> bool
+    requires { ⌜ (count ≤ 64) × (from + count ≤ length (now px)) ⌝ }
+    ensures { λ r. ⌜ r ≡ every (λ j. eqb (headOf whole (getD (now (px .entry)) (from + j) 0)) q) count ⌝ }
+{
+    let mut others: u8 = 0;
+    let mut j = 0;
+    while j < count {
+        others += 1 - one_if(head_of(px[from + j], whole), q);
+        j += 1;
+    }
+    others == 0
+}
+
+// Counts in a run of 64: at once, if all have one head.
+fn count_block(
+    w: usize,
+    h: usize,
+    px: &[u8],
+    whole: bool,
+    top: u8,
+    from: usize,
+    to: usize,
+    t: &mut [u32; 16],
+)
+    requires { ⌜ (Run whole top w h (now px) from to (now t)) × (to ≡ from + 64) ⌝ }
+    ensures { λ _. ⌜ now (t .exit) ≡ counts whole top (seen (picture w h (now (px .entry))) to) ⌝ }
+{
+    let q = head_of(px[from], whole);
+    if all_same(px, whole, q, from, 64) {
+        let d = (q % 16) as usize;
+        t[d] = t[d] + 64 * one_if(q / 16, top) as u32;
+    } else {
+        count_run(w, h, px, whole, top, from, to, t);
+    }
+}
+
+// Counts in a long run, 64 places at a time: a counter that is raised again at once waits for itself, so 64 samples of one head are better counted together.
+fn count_row(
+    w: usize,
+    h: usize,
+    px: &[u8],
+    whole: bool,
+    top: u8,
+    from: usize,
+    to: usize,
+    t: &mut [u32; 16],
+)
+    requires { ⌜ Run whole top w h (now px) from to (now t) ⌝ }
+    ensures { λ _. ⌜ now (t .exit) ≡ counts whole top (seen (picture w h (now (px .entry))) to) ⌝ }
+{
+    let mut i = from;
+    while i + 64 <= to {
+        count_block(w, h, px, whole, top, i, i + 64, t);
+        i += 64;
+    }
+    count_run(w, h, px, whole, top, i, to, t);
+}
+
 // How often each of 16 values is a head on the border: the first row and what follows, two ends of rows at a time, the rest of the last row.
-fn border_counts(w: usize, h: usize, px: &[u8], whole: bool, top: usize) -> [u32; 16]
+fn border_counts(w: usize, h: usize, px: &[u8], whole: bool, top: u8) -> [u32; 16]
     requires { ⌜ (Sides w h) × (length (now px) ≡ w * h) ⌝ }
     ensures { λ r. ⌜ r ≡ counts whole top (borderSamples (picture w h (now (px .entry)))) ⌝ }
 {
@@ -78,14 +137,14 @@ fn border_counts(w: usize, h: usize, px: &[u8], whole: bool, top: usize) -> [u32
     let mut t = [0u32; 16];
     let mut upto = w + 1;
     let mut y = 1;
-    count_run(w, h, px, whole, top, 0, upto, &mut t);
+    count_row(w, h, px, whole, top, 0, upto, &mut t);
     while y + 1 < h {
         let a = upto + w - 2;
         upto = a + 2;
         y += 1;
         count_run(w, h, px, whole, top, a, upto, &mut t);
     }
-    count_run(w, h, px, whole, top, n - w + 1, n, &mut t);
+    count_row(w, h, px, whole, top, n - w + 1, n, &mut t);
     t
 }
 
@@ -95,9 +154,10 @@ fn middle(t: &[u32; 16], below: u32, n: u32) -> Found
     ensures { λ r. ⌜ (r .value ≡ halfway (now (t .entry)) below n) × (r .below ≡ below + sum (λ i. getD (now (t .entry)) i 0) (r .value)) ⌝ }
 {
     let mut upto = below;
-    let mut d = 0;
+    let mut d: u8 = 0;
     while d < 15 {
-        let next = upto + t[d];
+        let i = d as usize;
+        let next = upto + t[i];
         if n <= 2 * next {
             return Found {
                 value: d,
@@ -114,14 +174,15 @@ fn middle(t: &[u32; 16], below: u32, n: u32) -> Found
 }
 
 // The first of the 16 values from 16·top on that at least half of the heads on the border do not exceed, `below` of them below 16·top.
-fn half_from(w: usize, h: usize, px: &[u8], whole: bool, top: usize, below: u32) -> Found
+fn half_from(w: usize, h: usize, px: &[u8], whole: bool, top: u8, below: u32) -> Found
     requires { ⌜ (Sides w h) × (length (now px) ≡ w * h) × (top ≤ 15) × (below ≡ under whole (borderSamples (picture w h (now px))) (16 * top)) ⌝ }
     ensures { λ r. ⌜ (r .value ≡ halfFrom whole top (borderSamples (picture w h (now (px .entry))))) × (r .below ≡ under whole (borderSamples (picture w h (now (px .entry)))) (r .value)) ⌝ }
 {
     let t = border_counts(w, h, px, whole, top);
     let f = middle(&t, below, (2 * (w + h) - 4) as u32);
+    let value = 16 * top + f.value;
     Found {
-        value: 16 * top + f.value,
+        value: value,
         below: f.below,
     }
 }
@@ -133,7 +194,7 @@ fn border_median(w: usize, h: usize, px: &[u8]) -> u8
 {
     let u = half_from(w, h, px, false, 0, 0);
     let v = half_from(w, h, px, true, u.value, u.below);
-    v.value as u8
+    v.value
 }
 
 // Writes v from `from` up to `stop`.

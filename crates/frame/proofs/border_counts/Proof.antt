@@ -19,20 +19,21 @@ area-requires c κs = search needs
 add-upto : tie.Need-add-upto Inv-loop μ-loop
 add-upto c = omega (arith, c .before .before .pre .0 .w-most)
 
-count-run-requires : tie.Need-count-run-requires Inv-loop μ-loop
-count-run-requires c κs =
+count-row-requires : tie.Need-count-row-requires Inv-loop μ-loop
+count-row-requires c κs =
     let s = c .before .before .before in
     let n = c .before .area in
-    let S = s .pre .0 in (
-      omega (arith, s .pre .1, n .ensures .0, n .ensures .1),
-      omega arith,
-      omega (arith, s .pre .1, rows-le _ _ S 1 (S .h-least), S .w-least),
-      begin _ _ S _ _ _,
-      first-on _ _ S,
-    )
+    let S = s .pre .0 in
+    record {
+      small = omega (arith, s .pre .1, n .ensures .0, n .ensures .1);
+      order = omega arith;
+      within = omega (arith, s .pre .1, rows-le _ _ S 1 (S .h-least), S .w-least);
+      held = begin _ _ S _ _ _;
+      border = first-on _ _ S;
+    }
 
 loop-holds : tie.Need-loop-holds Inv-loop μ-loop
-loop-holds c = first _ _ (c .before .before .before .before .pre .0) _ _ _ _ (c .count-run .ensures)
+loop-holds c = first _ _ (c .before .before .before .before .pre .0) _ _ _ _ (c .count-row .ensures)
 
 add-loop : tie.Need-add-loop Inv-loop μ-loop
 add-loop c = omega (arith, c .loop .inv .within, c .before .before .before .before .before .pre .0 .h-most)
@@ -64,21 +65,22 @@ add-upto-2 c =
 add-y : tie.Need-add-y Inv-loop μ-loop
 add-y c = omega (arith, c .before .loop .inv .within, c .before .before .before .before .before .before .pre .0 .h-most)
 
-count-run-requires-2 : tie.Need-count-run-requires-2 Inv-loop μ-loop
-count-run-requires-2 c κs =
+count-run-requires : tie.Need-count-run-requires Inv-loop μ-loop
+count-run-requires c κs =
     let l = c .before .before in
     let s = l .before .before .before .before .before in
     let n = l .before .before .before .area in
     let S = s .pre .0 in
     let a = l .loop .upto + s .args .w - 2 in
     let k : l .loop .y + 1 + 1 ≤ s .args .h = omega (arith, c .before .loop-test .taken) in
-    let e : a ≡ l .loop .y * s .args .w + (s .args .w - 1) = omega (arith, l .loop .inv .where-at, S .w-least) in (
-      omega (arith, s .pre .1, n .ensures .0, n .ensures .1),
-      omega arith,
-      omega (arith, s .pre .1, rows-le _ _ S (l .loop .y + 1) k, S .w-least),
-      skip _ _ S _ _ _ _ _ _ _ (l .loop .inv) (c .before .loop-test .taken) refl,
-      λ j p q. ends-on _ _ S (l .loop .y) a j e p q,
-    )
+    let e : a ≡ l .loop .y * s .args .w + (s .args .w - 1) = omega (arith, l .loop .inv .where-at, S .w-least) in
+    record {
+      small = omega (arith, s .pre .1, n .ensures .0, n .ensures .1);
+      order = omega arith;
+      within = omega (arith, s .pre .1, rows-le _ _ S (l .loop .y + 1) k, S .w-least);
+      held = skip _ _ S _ _ _ _ _ _ _ (l .loop .inv) (c .before .loop-test .taken) refl;
+      border = λ j p q. ends-on _ _ S (l .loop .y) a j e p q;
+    }
 
 loop-less : tie.Need-loop-less Inv-loop μ-loop
 loop-less c = omega arith
@@ -89,21 +91,21 @@ loop-again c =
     let s = l .before .before .before .before .before in
     let n = l .before .before .before .area in
     let S = s .pre .0 in
-    go _ _ S _ _ _ _ _ _ _ _ (l .loop .inv) (c .before .before .loop-test .taken) refl (c .count-run2 .ensures)
+    go _ _ S _ _ _ _ _ _ _ _ (l .loop .inv) (c .before .before .loop-test .taken) refl (c .count-run .ensures)
 
-sub-count-run : tie.Need-sub-count-run Inv-loop μ-loop
-sub-count-run c =
+sub-count-row : tie.Need-sub-count-row Inv-loop μ-loop
+sub-count-row c =
     let l = c .before in
     let s = l .before .before .before .before .before in
     let S = s .pre .0 in
     omega (arith, l .before .before .before .area .ensures .0, rows-le _ _ S 0 (omega (arith, S .h-least)))
 
-add-count-run : tie.Need-add-count-run Inv-loop μ-loop
-add-count-run c =
+add-count-row : tie.Need-add-count-row Inv-loop μ-loop
+add-count-row c =
     let n = c .before .before .before .before .area in omega (arith, n .ensures .1)
 
-count-run-requires-3 : tie.Need-count-run-requires-3 Inv-loop μ-loop
-count-run-requires-3 c κs =
+count-row-requires-2 : tie.Need-count-row-requires-2 Inv-loop μ-loop
+count-row-requires-2 c κs =
     let l = c .before .before in
     let s = l .before .before .before .before .before in
     let n = l .before .before .before .area in
@@ -111,13 +113,14 @@ count-run-requires-3 c κs =
     let a = s .args in
     let e : l .loop .y + 1 ≡ a .h = omega (arith, l .loop .inv .within, c .before .loop-test .left) in
     let t : a .w * a .h ≡ a .w * (l .loop .y + 1) = ap (λ (z : ℕ). a .w * z) (sym e) in
-    let f : l .loop .upto ≡ n .result - a .w + 1 = omega (arith, l .loop .inv .where-at, n .ensures .0) in (
-      omega (arith, s .pre .1, n .ensures .0, n .ensures .1),
-      omega (arith, rows-le _ _ S (l .loop .y) (l .loop .inv .within), n .ensures .0, S .w-least),
-      omega (arith, s .pre .1, n .ensures .0),
-      rw f at (l .loop .inv .held),
-      λ j p q. last-on _ _ S (l .loop .y) (l .loop .upto) _ j e (l .loop .inv .where-at) (n .ensures .0) (omega arith) q,
-    )
+    let f : l .loop .upto ≡ n .result - a .w + 1 = omega (arith, l .loop .inv .where-at, n .ensures .0) in
+    record {
+      small = omega (arith, s .pre .1, n .ensures .0, n .ensures .1);
+      order = omega (arith, rows-le _ _ S (l .loop .y) (l .loop .inv .within), n .ensures .0, S .w-least);
+      within = omega (arith, s .pre .1, n .ensures .0);
+      held = rw f at (l .loop .inv .held);
+      border = λ j p q. last-on _ _ S (l .loop .y) (l .loop .upto) _ j e (l .loop .inv .where-at) (n .ensures .0) (omega arith) q;
+    }
 
 returns : tie.Need-returns Inv-loop μ-loop
 returns c =
@@ -125,7 +128,7 @@ returns c =
     let s = l .before .before .before .before .before in
     let n = l .before .before .before .area in
     let S = s .pre .0 in
-    end _ _ S _ _ _ _ _ (n .ensures .0) (c .count-run3 .ensures)
+    end _ _ S _ _ _ _ _ (n .ensures .0) (c .count-row2 .ensures)
 
 pub border-counts-spec : {M : Type 1} → statement M
 border-counts-spec =
@@ -135,17 +138,17 @@ border-counts-spec =
     μ-loop
     area-requires
     add-upto
-    count-run-requires
+    count-row-requires
     loop-holds
     add-loop
     add-a
     sub-a
     add-upto-2
     add-y
-    count-run-requires-2
+    count-run-requires
     loop-less
     loop-again
-    sub-count-run
-    add-count-run
-    count-run-requires-3
+    sub-count-row
+    add-count-row
+    count-row-requires-2
     returns)

@@ -26,19 +26,12 @@ half-from-requires-2 c κs =
     let u = c .half-from in
     (s .pre .0, s .pre .1, omega (arith, u .ensures .0, half-le false 0 l), u .ensures .1 ∙ upper-under l (u .result .value))
 
-cast-result : tie.Need-cast-result
-cast-result c =
-    let a = c .before .before .before .before .args in
-    let l = borderSamples (picture (a .w) (a .h) (a .px .now)) in
-    let u = c .before .before .half-from in
-    omega (arith, u .ensures .0, half-le false 0 l, c .before .half-from2 .ensures .0, half-le true (u .result .value) l)
-
 returns : tie.Need-returns
 returns c =
-    let a = c .before .before .before .before .args in
+    let a = c .before .before .before .args in
     let l = borderSamples (picture (a .w) (a .h) (a .px .now)) in
-    c .before .half-from2 .ensures .0 ∙ ap (λ (z : ℕ). halfFrom true z l) (c .before .before .half-from .ensures .0) ∙ median-halves l
+    c .half-from2 .ensures .0 ∙ ap (λ (z : ℕ). halfFrom true z l) (c .before .half-from .ensures .0) ∙ median-halves l
 
 pub border-median-spec : {M : Type 1} → statement M
 border-median-spec =
-    tie.close (tie.spec half-from-requires half-from-requires-2 cast-result returns)
+    tie.close (tie.spec half-from-requires half-from-requires-2 returns)

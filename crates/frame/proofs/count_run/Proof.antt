@@ -18,13 +18,16 @@ abbrev μ-loop : tie.MeasureT-loop
 μ-loop w h px whole top from to t₀ i₀ t i = to - i
 
 loop-holds : tie.Need-loop-holds Inv-loop μ-loop
-loop-holds c = (omega arith, c .before .pre .1, c .before .pre .3)
+loop-holds c = (omega arith, c .before .pre .order, c .before .pre .held)
 
 shared-slice-read-head-of : tie.Need-shared-slice-read-head-of Inv-loop μ-loop
-shared-slice-read-head-of c = omega (arith, c .before .before .before .before .pre .2)
+shared-slice-read-head-of c = omega (arith, c .before .before .before .before .pre .within)
 
 head-of-requires : tie.Need-head-of-requires Inv-loop μ-loop
 head-of-requires c κs = search needs
+
+cast-d : tie.Need-cast-d Inv-loop μ-loop
+cast-d c = omega arith
 
 mul-t : tie.Need-mul-t Inv-loop μ-loop
 mul-t c = omega arith
@@ -35,6 +38,9 @@ element-copy-out-t c = omega arith
 one-if-requires : tie.Need-one-if-requires Inv-loop μ-loop
 one-if-requires c κs = search needs
 
+cast-t : tie.Need-cast-t Inv-loop μ-loop
+cast-t c = omega arith
+
 add-t : tie.Need-add-t Inv-loop μ-loop
 add-t c =
     let l = c .before .before .before .before .before in
@@ -42,7 +48,7 @@ add-t c =
     let a = s .args in
     let q = c .before .before .head-of .result in
     let m : q % 16 < 16 = mod-lt q (omega arith) in
-    omega (arith, entry-le (a .whole) (a .top) (picture (a .w) (a .h) (a .px .now)) _ _ _ (l .loop .inv .2) m, c .one-if .ensures .1, s .pre .0, s .pre .2)
+    omega (arith, entry-le (a .whole) (a .top) (picture (a .w) (a .h) (a .px .now)) _ _ _ (l .loop .inv .2) m, c .one-if .ensures .1, s .pre .small, s .pre .within)
 
 mul-t-2 : tie.Need-mul-t-2 Inv-loop μ-loop
 mul-t-2 c = omega arith
@@ -52,7 +58,7 @@ element-write-t c = omega arith
 
 add-i : tie.Need-add-i Inv-loop μ-loop
 add-i c =
-    let s = c .before .before .before .before .before .before .before in omega (arith, s .pre .0, s .pre .2)
+    let s = c .before .before .before .before .before .before .before in omega (arith, s .pre .small, s .pre .within)
 
 loop-less : tie.Need-loop-less Inv-loop μ-loop
 loop-less c = omega arith
@@ -64,7 +70,7 @@ loop-again c =
     let a = s .args in (
       omega arith,
       omega arith,
-      seen-more (a .whole) (a .top) (picture (a .w) (a .h) (a .px .now)) _ _ _ _ (s .pre .4 (l .loop .i) (l .loop .inv .0) (c .before .before .before .before .loop-test .taken)) (c .before .before .head-of .ensures) (c .one-if .ensures .0) (l .loop .inv .2),
+      seen-more (a .whole) (a .top) (picture (a .w) (a .h) (a .px .now)) _ _ _ _ (s .pre .border (l .loop .i) (l .loop .inv .0) (c .before .before .before .before .loop-test .taken)) (c .before .before .head-of .ensures) (c .one-if .ensures .0) (l .loop .inv .2),
     )
 
 returns : tie.Need-returns Inv-loop μ-loop
@@ -82,9 +88,11 @@ count-run-spec =
     loop-holds
     shared-slice-read-head-of
     head-of-requires
+    cast-d
     mul-t
     element-copy-out-t
     one-if-requires
+    cast-t
     add-t
     mul-t-2
     element-write-t

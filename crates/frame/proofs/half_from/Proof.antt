@@ -34,11 +34,11 @@ middle-requires c κs =
     let e : length l ≡ 2 * (a .w + a .h) - 4 = border-many _ _ (s .pre .0) _ in
     rw (c .before .border-counts .ensures) (omega (arith, counts-sum (a .whole) (a .top) l, s .pre .3, s .pre .0 .w-most, s .pre .0 .h-most))
 
-mul-t11 : tie.Need-mul-t11
-mul-t11 c = search needs
+mul-value : tie.Need-mul-value
+mul-value c = search needs
 
-add-t12 : tie.Need-add-t12
-add-t12 c =
+add-value : tie.Need-add-value
+add-value c =
     let s = c .before .before .before .before .before in
     let a = s .args in
     let t = c .before .before .before .border-counts in
@@ -66,6 +66,6 @@ half-from-spec =
     sub-middle
     cast-middle
     middle-requires
-    mul-t11
-    add-t12
+    mul-value
+    add-value
     returns)

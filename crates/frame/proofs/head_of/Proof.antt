@@ -6,11 +6,8 @@ use Rattle.frame.proofs.head_of.Tie as tie
 returns : tie.Need-returns
 returns c = search needs
 
-cast-result : tie.Need-cast-result
-cast-result c = search needs
-
 returns-2 : tie.Need-returns-2
 returns-2 c = rw (c .if1 .left)
 
 pub head-of-spec : {M : Type 1} → statement M
-head-of-spec = tie.close (tie.spec returns cast-result returns-2)
+head-of-spec = tie.close (tie.spec returns returns-2)

@@ -14,6 +14,9 @@ abbrev μ-loop : tie.MeasureT-loop
 loop-holds : tie.Need-loop-holds Inv-loop μ-loop
 loop-holds c = begin _ _ _
 
+cast-i : tie.Need-cast-i Inv-loop μ-loop
+cast-i c = omega arith
+
 mul-next : tie.Need-mul-next Inv-loop μ-loop
 mul-next c = omega arith
 
@@ -54,6 +57,7 @@ middle-spec =
     Inv-loop
     μ-loop
     loop-holds
+    cast-i
     mul-next
     element-copy-out-next
     add-next

@@ -38,6 +38,7 @@
 #define LOAFCANYON_STACK_LIST (144 * 1024)
 #define LOAFCANYON_STACK_TREE (48 * 1024)
 #define LOAFCANYON_STACK_PAINT (528 * 1024)
+#define LOAFCANYON_STACK_FRAME 512
 #define LOAFCANYON_STACK_OTHER (8 * 1024) /* every other call */
 
 #include <stddef.h>

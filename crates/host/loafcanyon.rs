@@ -60,7 +60,7 @@ pub struct ReadAnswer {
 }
 
 extern "C" {
-    fn loafcanyon_frame(w: usize, h: usize, px: *const u8, px_count: usize, room: *mut u8, room_count: usize)
+    pub fn loafcanyon_frame(w: usize, h: usize, px: *const u8, px_count: usize, room: *mut u8, room_count: usize)
         -> Answer;
     fn loafcanyon_list(
         w: usize, h: usize, px: *const u8, px_count: usize, levels: *const u8, level_count: usize, work: *mut u8,

@@ -15,6 +15,8 @@ mod case;
 mod cells;
 mod definition;
 mod demands;
+#[cfg(feature = "library")]
+mod depth;
 mod faults;
 mod files;
 mod frames;

@@ -16,7 +16,9 @@ use crate::run::Run;
 use crate::words::good_words;
 
 /// What a thread and the suite itself take of a stack.
-const OWN: usize = 16;
+const OWN: usize = 16 * KB;
+
+const KB: usize = 1024;
 
 pub fn group(run: &mut Run) {
     let mut rng = run.rng();
@@ -25,19 +27,27 @@ pub fn group(run: &mut Run) {
     cases.sort_by_key(|case| most(case.call));
     for case in cases {
         compare(run, &case);
+        #[cfg(feature = "library")]
+        if case.call == Call::Frame {
+            let depth = crate::depth::framing(&case);
+            run.count(1);
+            run.notes.push(format!("framing {} by {} went {depth} bytes deep", case.w, case.h));
+            run.direct(&case, (depth > most(Call::Frame)).then(|| format!("framing took {depth} bytes of stack")));
+        }
         for refused in each_refused(&case, &mut rng) {
             compare(run, &refused);
         }
     }
 }
 
-/// The kilobytes that the header says.
+/// The bytes that the header says.
 fn most(call: Call) -> usize {
     match call {
-        Call::List => 144,
-        Call::Tree => 48,
-        Call::Paint => 528,
-        _ => 8,
+        Call::List => 144 * KB,
+        Call::Tree => 48 * KB,
+        Call::Paint => 528 * KB,
+        Call::Frame => 512,
+        _ => 8 * KB,
     }
 }
 
@@ -54,7 +64,7 @@ fn compare(run: &mut Run, case: &Case) {
 /// The subject at work on a stack of its own. Too small a stack ends the suite by a signal.
 fn on_small_stack(run: &Run, case: &Case) -> Outcome {
     let subject = run.subject;
-    let room = thread::Builder::new().stack_size((most(case.call) + OWN) * 1024);
+    let room = thread::Builder::new().stack_size(most(case.call) + OWN);
     thread::scope(|scope| {
         let thread = room.spawn_scoped(scope, || case.run(subject)).expect("a thread can be started");
         thread.join().expect("a call's panic is caught in its case")

@@ -1,6 +1,6 @@
 //! The bars that the library is held to.
 
-use crate::measure::{Figures, FileFigures};
+use crate::measure::{Figures, FileFigures, Framing};
 
 /// A limit, and what was seen.
 pub struct Bar {
@@ -28,6 +28,9 @@ const LIST: (f64, f64) = (0.9, 1.4);
 
 /// Where nothing is crossed, listing may take as long as one pass over all samples for each level, and this many passes more to count and to clear.
 const BESIDES: f64 = 5.0;
+
+/// What framing may take of a plain copy's time.
+const FRAME: f64 = 1.1;
 
 /// The comparison's time against the yardstick's, a C++ listing that is not part of this repository: the least of 25
 /// repeats of both in one run. The bars are set against the yardstick, and only the comparison is here.
@@ -80,8 +83,18 @@ impl Figures {
     }
 }
 
+impl Framing {
+    pub fn ratio(&self) -> f64 {
+        self.frame / self.copy
+    }
+
+    fn bar(&self) -> Bar {
+        Bar { what: format!("frame/copy, {}", self.picture), limit: FRAME, seen: self.ratio(), at_most: true }
+    }
+}
+
 /// Every bar, with what was seen.
-pub fn all(seen: &[Figures]) -> Vec<Bar> {
+pub fn all(seen: &[Figures], framed: &Framing) -> Vec<Bar> {
     let (flat, crossed): (Vec<&Figures>, Vec<&Figures>) = seen.iter().partition(|f| f.passes.is_some());
     let mut bars: Vec<Bar> = crossed.iter().map(|f| f.list_bar()).collect();
     bars.extend(crossed.iter().filter_map(|f| f.paint_bar()));
@@ -92,6 +105,7 @@ pub fn all(seen: &[Figures]) -> Vec<Bar> {
         let levels = f.levels as f64;
         Some(f.bar("list/passes", (BESIDES + levels) / levels, f.list / f.passes?))
     }));
+    bars.push(framed.bar());
     bars
 }
 

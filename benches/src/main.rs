@@ -37,14 +37,16 @@ fn main() -> ExitCode {
     // All levels of noise are 179 million words, more than is worth the memory.
     seen.extend(measure::whole(&pictures::noise(), &[1, 8, 32], pace));
     seen.extend(measure::whole(&pictures::flat(), &[1, 8, 32, 255], pace));
+    let framed = measure::framing(&terrain, pace);
     let grown = measure::growth(&terrain, &[256, 512, 1024, 2048], 8, pace);
     report::lists(&seen);
     report::paints(&seen);
     report::files(&seen);
     report::trees(&seen);
     report::flat(&seen);
+    report::framing(&framed);
     report::growth(&grown);
-    let bars = bars::all(&seen);
+    let bars = bars::all(&seen, &framed);
     report::bars(&bars);
     ExitCode::from(!bars.iter().all(bars::Bar::met) as u8)
 }

@@ -1,7 +1,11 @@
 //! The times of one picture at some levels.
 
+use std::hint::black_box;
+
 use crate::desk::{Call, Desk};
+use crate::library;
 use crate::pictures::{levels, Picture};
+use crate::plain;
 use crate::timing::{once, Pace};
 
 /// Seconds a tree may take to be timed.
@@ -47,6 +51,14 @@ pub struct FileFigures {
     pub plain: f64,
 }
 
+/// Framing, timed in turns with a plain copy of the samples; times in seconds.
+pub struct Framing {
+    pub picture: &'static str,
+    pub samples: usize,
+    pub frame: f64,
+    pub copy: f64,
+}
+
 /// Everything about a picture, at each number of levels.
 pub fn whole(picture: &Picture, counts: &[usize], pace: Pace) -> Vec<Figures> {
     let mut seen: Vec<Figures> = Vec::new();
@@ -68,6 +80,23 @@ pub fn whole(picture: &Picture, counts: &[usize], pace: Pace) -> Vec<Figures> {
         seen.push(figures);
     }
     seen
+}
+
+/// Framing a picture that has a constant border: what comes out is the picture itself.
+pub fn framing(picture: &Picture, pace: Pace) -> Framing {
+    eprintln!("bench: {}, framing", picture.name);
+    let (w, h, px) = (picture.w, picture.h, &picture.px);
+    let mut room = vec![0; picture.samples()];
+    let answer = library::frame(w, h, px, &mut room);
+    assert!(answer.number == 0 && room == *px, "{} is not framed right", picture.name);
+    let [frame, copy] = pace.share(0.5).least([true, false], |frames| {
+        if frames {
+            black_box(library::frame(w, h, px, &mut room));
+        } else {
+            plain::copy(black_box(px), black_box(&mut room));
+        }
+    });
+    Framing { picture: picture.name, samples: picture.samples(), frame, copy }
 }
 
 /// How listing, painting and the tree grow: the middle of a picture at several sizes.

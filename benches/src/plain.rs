@@ -15,6 +15,13 @@ fn check(number: usize, payload: &[u8]) -> u32 {
     sum
 }
 
+/// The samples copied.
+pub fn copy(px: &[u8], room: &mut [u8]) {
+    for (place, &v) in room.iter_mut().zip(px) {
+        *place = v;
+    }
+}
+
 /// One pass over all samples: the least and the greatest.
 pub fn ends(px: &[u8]) -> (u8, u8) {
     px.iter().fold((255, 0), |(least, most), &v| (v.min(least), v.max(most)))

@@ -1,7 +1,7 @@
 //! The tables.
 
 use crate::bars::Bar;
-use crate::measure::{Figures, FileFigures};
+use crate::measure::{Figures, FileFigures, Framing};
 
 /// One row for each picture and number of levels.
 fn rows(title: &str, heads: &str, seen: &[Figures], row: impl Fn(&Figures) -> Option<String>) {
@@ -68,6 +68,12 @@ pub fn flat(seen: &[Figures]) {
         let passes = f.passes?;
         Some(format!("{:>21.3} {:>11.2}", f.time_by_level(), f.list / passes))
     });
+}
+
+pub fn framing(f: &Framing) {
+    println!("\nFraming\n{:<8} {:>9} {:>9} {:>11}", "picture", "ms", "ns/sample", "frame/copy");
+    let sample = f.frame * 1e9 / f.samples as f64;
+    println!("{:<8} {:>9.2} {sample:>9.2} {:>11.2}", f.picture, f.frame * 1e3, f.ratio());
 }
 
 pub fn growth(seen: &[Figures]) {

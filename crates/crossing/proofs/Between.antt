@@ -69,9 +69,9 @@ pub between : (P : Picture) (k c : ℕ) → crossed (high P k) (P .w) c ≡ true
 unfolding crossed num den
 between P k c e = numbers k (at P (first c)) (at P (second (P .w) c)) e
 
-pub done-between : (P : Picture) (k c : ℕ) → crossingVerdict P k c eight .number ≡ 0 → (0 < num P k c) × (num P k c < den P k c)
-done-between P k c z = between P k c (fine P k c (crossingVerdict P k c eight) refl z .cut)
+pub done-between : (P : Picture) (k c : ℕ) → crossingVerdict eight P k c .number ≡ 0 → (0 < num P k c) × (num P k c < den P k c)
+done-between P k c z = between P k c (fine P k c (crossingVerdict eight P k c) refl z .cut)
 
 pub done-height : (P : Picture) (k c r : ℕ) →
-    crossingVerdict P k c eight .number ≡ 0 → num P k c + r ≡ den P k c → 2 * (at P (first c) * r + at P (second (P .w) c) * num P k c) ≡ (2 * k + 1) * den P k c
-done-height P k c r z = height P k c r (fine P k c (crossingVerdict P k c eight) refl z .cut)
+    crossingVerdict eight P k c .number ≡ 0 → num P k c + r ≡ den P k c → 2 * (at P (first c) * r + at P (second (P .w) c) * num P k c) ≡ (2 * k + 1) * den P k c
+done-height P k c r z = height P k c r (fine P k c (crossingVerdict eight P k c) refl z .cut)

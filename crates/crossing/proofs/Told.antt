@@ -36,7 +36,7 @@ module _ (P : Picture) (k c : ℕ) where
   abbrev rest : List Row
   rest = codeRow (P .w) (P .h) c ∷ row 10 (not (crossed (high P k) (P .w) c)) ∷ []
 
-  pub fine : (v : Verdict) → v ≡ crossingVerdict P k c eight → v .number ≡ 0 → Fine P k c
+  pub fine : (v : Verdict) → v ≡ crossingVerdict eight P k c → v .number ≡ 0 → Fine P k c
   fine v q zero =
       let a = parted (levelRows eight P (k ∷ [])) rest refl (ap (λ (u : Verdict). u .number) (sym q) ∙ zero) in
       let l = levelled eight P (k ∷ []) (a .0) .0 in
@@ -83,13 +83,13 @@ module _ (P : Picture) (k c : ℕ) where
         y = cond b (pointY P k c) (whole 0);
       }
 
-  module _ (v : Verdict) (e : v ≡ crossingVerdict P k c eight) (r : Answer) (w : r ≡ answer v 0 0) where
+  module _ (v : Verdict) (e : v ≡ crossingVerdict eight P k c) (r : Answer) (w : r ≡ answer v 0 0) where
     pub refused-is : (v .number ≡ 0 → ⊥) → (f g : Float) → f ≡ whole 0 → g ≡ whole 0
-        → _≡_ {A = Crossing} (record { answer = r; heading = 0; num = 0; den = 0; x = f; y = g }) (crossingAnswer P k c eight)
+        → _≡_ {A = Crossing} (record { answer = r; heading = 0; num = 0; den = 0; x = f; y = g }) (crossingAnswer eight P k c)
     refused-is z f g p q =
         rw (p, q, w) (ap (λ (b : Bool). made b v) (sym (ne-eqb (v .number) 0 z)) ∙ ap (λ (u : Verdict). made (eqb (u .number) 0) u) e)
 
     pub done-is : v .number ≡ 0 → (o n d : ℕ) (f g : Float) → o ≡ number (headingAt (high P k) c) → n ≡ num P k c → d ≡ den P k c → f ≡ pointX P k c → g ≡ pointY P k c
-        → _≡_ {A = Crossing} (record { answer = r; heading = o; num = n; den = d; x = f; y = g }) (crossingAnswer P k c eight)
+        → _≡_ {A = Crossing} (record { answer = r; heading = o; num = n; den = d; x = f; y = g }) (crossingAnswer eight P k c)
     done-is z o n d f g a b s p q =
         rw (a, b, s, p, q, w) (ap (λ (t : Bool). made t v) (sym (eq-eqb (v .number) 0 z)) ∙ ap (λ (u : Verdict). made (eqb (u .number) 0) u) e)

@@ -41,22 +41,22 @@ module _ (P : Picture) (k c : ℕ) where
   abbrev pub pointY : Float
   pointY = cond (horizontal c) (whole (Edgel.row (P .w) c)) (along (Edgel.row (P .w) c) num den)
 
-  module _ (L : Layout) where
-    -- 1 2 3 8 10 (01, Numbers for a refused call)
-    abbrev pub crossingRows : List Row
-    crossingRows = levelRows L P (k ∷ []) ++ (codeRow (P .w) (P .h) c ∷ row 10 (not (crossed (high P k) (P .w) c)) ∷ [])
+module _ (L : Layout) (P : Picture) (k c : ℕ) where
+  -- 1 2 3 8 10 (01, Numbers for a refused call)
+  abbrev pub crossingRows : List Row
+  crossingRows = levelRows L P (k ∷ []) ++ (codeRow (P .w) (P .h) c ∷ row 10 (not (crossed (high P k) (P .w) c)) ∷ [])
 
-    abbrev pub crossingVerdict : Verdict
-    crossingVerdict = verdict crossingRows
+  abbrev pub crossingVerdict : Verdict
+  crossingVerdict = verdict crossingRows
 
-    -- refused, every further number is 0 (01, Numbers for a refused call)
-    abbrev pub crossingAnswer : Crossing
-    crossingAnswer =
-        record {
-          answer = answer crossingVerdict 0 0;
-          heading = afterwards crossingVerdict 0 (number (headingAt (high P k) c));
-          num = afterwards crossingVerdict 0 num;
-          den = afterwards crossingVerdict 0 den;
-          x = afterwards crossingVerdict (whole 0) pointX;
-          y = afterwards crossingVerdict (whole 0) pointY;
-        }
+  -- refused, every further number is 0 (01, Numbers for a refused call)
+  abbrev pub crossingAnswer : Crossing
+  crossingAnswer =
+      record {
+        answer = answer crossingVerdict 0 0;
+        heading = afterwards crossingVerdict 0 (number (headingAt (high P k) c));
+        num = afterwards crossingVerdict 0 (num P k c);
+        den = afterwards crossingVerdict 0 (den P k c);
+        x = afterwards crossingVerdict (whole 0) (pointX P k c);
+        y = afterwards crossingVerdict (whole 0) (pointY P k c);
+      }

@@ -116,7 +116,7 @@ fn coordinate(moves: bool, n: u32, a: u32, b: u32) -> f64
 
 // The refusals 1 2 3 8 10.
 fn crossing_verdict(w: usize, h: usize, px: &[u8], k: u8, code: u32) -> Verdict
-    ensures { λ r. ⌜ r ≡ crossingVerdict (picture w h (now (px .entry))) k code eight ⌝ }
+    ensures { λ r. ⌜ r ≡ crossingVerdict eight (picture w h (now (px .entry))) k code ⌝ }
 {
     let ks = [k];
     let v = level_verdict(w, h, px, &ks);
@@ -134,7 +134,7 @@ fn crossing_verdict(w: usize, h: usize, px: &[u8], k: u8, code: u32) -> Verdict
 
 // Where level k crosses the edgel of a code.
 pub fn crossing_at(w: usize, h: usize, px: &[u8], k: u8, code: u32) -> Crossing
-    ensures { λ r. ⌜ r ≡ crossingAnswer (picture w h (now (px .entry))) k code eight ⌝ }
+    ensures { λ r. ⌜ r ≡ crossingAnswer eight (picture w h (now (px .entry))) k code ⌝ }
 {
     let v = crossing_verdict(w, h, px, k, code);
     if v.number != 0 {

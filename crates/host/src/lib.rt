@@ -122,7 +122,7 @@ pub extern "C" fn loafcanyon_crossing(
     level: u8,
     code: u32,
 ) -> Crossing
-    ensures { λ r. ⌜ r ≡ crossingAnswer (picture w h (now (px .entry))) level code eight ⌝ }
+    ensures { λ r. ⌜ r ≡ crossingAnswer eight (picture w h (now (px .entry))) level code ⌝ }
 {
     crossing_at(w, h, px, level, code)
 }
@@ -136,7 +136,7 @@ pub extern "C" fn loafcanyon_piece(
     x: usize,
     y: usize,
 ) -> ToldPiece
-    ensures { λ r. ⌜ r ≡ toldPiece (pieceAnswer (picture w h (now (px .entry))) level x y eight) ⌝ }
+    ensures { λ r. ⌜ r ≡ toldPiece (pieceAnswer eight (picture w h (now (px .entry))) level x y) ⌝ }
 {
     told(piece_at(w, h, px, level, x, y))
 }
@@ -183,7 +183,7 @@ pub extern "C" fn loafcanyon_paint(
     words: &[u32],
     room: &mut [u8],
 ) -> Answer
-    ensures { λ r. ⌜ (r ≡ paintAnswer eight w v (now (levels .entry)) (now (words .entry)) h (now (room .entry))) × (now (room .exit) ≡ paintRoom eight w v (now (levels .entry)) (now (words .entry)) h (now (room .entry))) ⌝ }
+    ensures { λ r. ⌜ (r ≡ paintAnswer eight w h v (now (levels .entry)) (now (words .entry)) (now (room .entry))) × (now (room .exit) ≡ paintRoom eight w h v (now (levels .entry)) (now (words .entry)) (now (room .entry))) ⌝ }
 {
     paint_words(w, h, v, levels, words, room)
 }

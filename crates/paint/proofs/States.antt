@@ -107,7 +107,7 @@ module _ (L : Layout) (w v : ℕ) (ks ws : List ℕ) (z : 0 < w) where
       tally-alike _ _ (λ k. state-is L w v ks ws (i / w) k (ltb k v) (i % w) (omega arith)) ks
 
   pub painting-list : (h : ℕ) (d b e : List ℕ) → w * h ≤ length d → Filled (λ i. 0) d (w * h) b → Filled (stacked L w v ks ws) b (w * h) e
-      → e ≡ painting L w v ks ws h ++ drop (w * h) d
+      → e ≡ painting L w h v ks ws ++ drop (w * h) d
   unfolding painting
   painting-list h d b e l B E =
       filled-list (λ i. painted L w v ks ws (i % w) (i / w)) d (w * h) e

@@ -28,21 +28,21 @@ module _ (L : Layout) (w v : ℕ) (ks ws : List ℕ) where
   unfoldable pub painted : ℕ → ℕ → ℕ
   painted x y = tally (λ k. differ (ltb k v) (odd (tally (turns x y k) ws))) ks
 
-  module _ (h : ℕ) where
-    -- every sample, row by row
-    unfoldable pub painting : List ℕ
-    painting = build (λ i. painted (i % w) (i / w)) 0 (w * h)
+module _ (L : Layout) (w h v : ℕ) (ks ws : List ℕ) where
+  -- every sample, row by row
+  unfoldable pub painting : List ℕ
+  painting = build (λ i. painted L w v ks ws (i % w) (i / w)) 0 (w * h)
 
-    module _ (room : List ℕ) where
-      -- 1 3 8 9 (01, Numbers for a refused call)
-      abbrev pub paintRows : List Row
-      paintRows = sizeRows L w h ks ++ (wordsFitRow L w h ks ws ∷ roomRow w h room ∷ [])
+  module _ (room : List ℕ) where
+    -- 1 3 8 9 (01, Numbers for a refused call)
+    abbrev pub paintRows : List Row
+    paintRows = sizeRows L w h ks ++ (wordsFitRow L w h ks ws ∷ roomRow w h room ∷ [])
 
-      abbrev pub paintVerdict : Verdict
-      paintVerdict = verdict paintRows
+    abbrev pub paintVerdict : Verdict
+    paintVerdict = verdict paintRows
 
-      abbrev pub paintAnswer : Answer
-      paintAnswer = answer paintVerdict 0 0
+    abbrev pub paintAnswer : Answer
+    paintAnswer = answer paintVerdict 0 0
 
-      abbrev pub paintRoom : List ℕ
-      paintRoom = afterwards paintVerdict room (painting ++ drop (w * h) room)
+    abbrev pub paintRoom : List ℕ
+    paintRoom = afterwards paintVerdict room (painting ++ drop (w * h) room)

@@ -196,7 +196,7 @@ pub fn paint_words(
     words: &[u32],
     room: &mut [u8],
 ) -> Answer
-    ensures { λ r. ⌜ (r ≡ paintAnswer eight w v (now (levels .entry)) (now (words .entry)) h (now (room .entry))) × (now (room .exit) ≡ paintRoom eight w v (now (levels .entry)) (now (words .entry)) h (now (room .entry))) ⌝ }
+    ensures { λ r. ⌜ (r ≡ paintAnswer eight w h v (now (levels .entry)) (now (words .entry)) (now (room .entry))) × (now (room .exit) ≡ paintRoom eight w h v (now (levels .entry)) (now (words .entry)) (now (room .entry))) ⌝ }
 {
     let p = paint_verdict(w, h, levels, words, room.len());
     if p.number != 0 {

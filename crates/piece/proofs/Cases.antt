@@ -116,13 +116,13 @@ module _ (P : Picture) (k x y : ℕ) where
       pieceOf (at P t) (at P (t + P .w)) (at P (t + P .w + 1)) (at P (t + 1)) k
 
   -- the answer's number is not 0: the refused case (01, Numbers for a refused call)
-  pub refused-if : (pieceAnswer P k x y eight .answer .number ≡ 0 → ⊥) → pieceAnswer P k x y eight .piece ≡ caseOf Refused
-  refused-if z = refused-after (pieceVerdict P k x y eight) (caseOf Refused) found (λ e. z (number-is (pieceVerdict P k x y eight) ∙ e))
+  pub refused-if : (pieceAnswer eight P k x y .answer .number ≡ 0 → ⊥) → pieceAnswer eight P k x y .piece ≡ caseOf Refused
+  refused-if z = refused-after (pieceVerdict eight P k x y) (caseOf Refused) found (λ e. z (number-is (pieceVerdict eight P k x y) ∙ e))
 
   -- and only then
-  pub refused-only : pieceAnswer P k x y eight .piece ≡ caseOf Refused → pieceAnswer P k x y eight .answer .number ≡ 0 → ⊥
+  pub refused-only : pieceAnswer eight P k x y .piece ≡ caseOf Refused → pieceAnswer eight P k x y .answer .number ≡ 0 → ⊥
   refused-only e z =
       let t = cellAt P k x y in
-      let n : pieceVerdict P k x y eight .number ≡ 0 = sym (number-is (pieceVerdict P k x y eight)) ∙ z in
+      let n : pieceVerdict eight P k x y .number ≡ 0 = sym (number-is (pieceVerdict eight P k x y)) ∙ z in
       never-refused (at P t) (at P (t + P .w)) (at P (t + P .w + 1)) (at P (t + 1)) k
-      (ap (λ (v : Case). v .number) (sym (done-after (pieceVerdict P k x y eight) (caseOf Refused) found n) ∙ e))
+      (ap (λ (v : Case). v .number) (sym (done-after (pieceVerdict eight P k x y) (caseOf Refused) found n) ∙ e))

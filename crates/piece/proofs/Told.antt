@@ -70,7 +70,7 @@ module _ (P : Picture) (k x y : ℕ) where
   pub met-from : (q : Corners) (t : ℕ) → q ≡ cornersAt (P .w) (P .px) t → t ≡ cellAt P k x y → mixed (ltb k (q .p0)) (ltb k (q .p1)) (ltb k (q .p2)) (ltb k (q .p3)) ≡ met P k x y
   met-from q t c e = ap (λ (z : Corners). mixed (ltb k (z .p0)) (ltb k (z .p1)) (ltb k (z .p2)) (ltb k (z .p3))) c ∙ met-is t e
 
-  pub fine : (v : Verdict) → v ≡ pieceVerdict P k x y eight → v .number ≡ 0 → Fine P k x y
+  pub fine : (v : Verdict) → v ≡ pieceVerdict eight P k x y → v .number ≡ 0 → Fine P k x y
   fine v q zero =
       let a = parted (levelRows eight P (k ∷ [])) (row 11 (not (isCell P k x y)) ∷ row 10 (not (met P k x y)) ∷ []) refl (ap (λ (u : Verdict). u .number) (sym q) ∙ zero) in
       let l = levelled eight P (k ∷ []) (a .0) .0 in
@@ -90,12 +90,12 @@ module _ (P : Picture) (k x y : ℕ) where
   abbrev made : Bool → Verdict → Told
   made b v = record { answer = answer v 0 0; piece = cond b (found (cellAt P k x y)) (caseOf Refused) }
 
-  module _ (v : Verdict) (e : v ≡ pieceVerdict P k x y eight) (r : Answer) (w : r ≡ answer v 0 0) where
-    pub refused-is : (v .number ≡ 0 → ⊥) → told (record { answer = r; piece = Refused }) ≡ pieceAnswer P k x y eight
+  module _ (v : Verdict) (e : v ≡ pieceVerdict eight P k x y) (r : Answer) (w : r ≡ answer v 0 0) where
+    pub refused-is : (v .number ≡ 0 → ⊥) → told (record { answer = r; piece = Refused }) ≡ pieceAnswer eight P k x y
     refused-is z = rw w (ap (λ (b : Bool). made b v) (sym (ne-eqb (v .number) 0 z)) ∙ ap (λ (u : Verdict). made (eqb (u .number) 0) u) e)
 
     pub done-is : v .number ≡ 0 → (q : Corners) (t : ℕ) → q ≡ cornersAt (P .w) (P .px) t → t ≡ cellAt P k x y → (p : Piece) → caseOf p ≡ pieceOf (q .p0) (q .p1) (q .p2) (q .p3) k
-        → told (record { answer = r; piece = p }) ≡ pieceAnswer P k x y eight
+        → told (record { answer = r; piece = p }) ≡ pieceAnswer eight P k x y
     done-is z q t c s p g =
         let f : caseOf p ≡ found (cellAt P k x y) = g ∙ ap (λ (u : Corners). pieceOf (u .p0) (u .p1) (u .p2) (u .p3) k) c ∙ ap found s in
         rw (w, f) (ap (λ (b : Bool). made b v) (sym (eq-eqb (v .number) 0 z)) ∙ ap (λ (u : Verdict). made (eqb (u .number) 0) u) e)

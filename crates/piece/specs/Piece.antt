@@ -114,19 +114,19 @@ module _ (P : Picture) (k x y : ℕ) where
       || (crossed (high P k) (P .w) (out (P .w) North cellAt)
       || crossed (high P k) (P .w) (out (P .w) West cellAt)))
 
-  module _ (L : Layout) where
-    -- 1 2 3 11 10 (01, Numbers for a refused call)
-    abbrev pub pieceRows : List Row
-    pieceRows = levelRows L P (k ∷ []) ++ (row 11 (not isCell) ∷ row 10 (not met) ∷ [])
+module _ (L : Layout) (P : Picture) (k x y : ℕ) where
+  -- 1 2 3 11 10 (01, Numbers for a refused call)
+  abbrev pub pieceRows : List Row
+  pieceRows = levelRows L P (k ∷ []) ++ (row 11 (not (isCell P k x y)) ∷ row 10 (not (met P k x y)) ∷ [])
 
-    abbrev pub pieceVerdict : Verdict
-    pieceVerdict = verdict pieceRows
+  abbrev pub pieceVerdict : Verdict
+  pieceVerdict = verdict pieceRows
 
-    -- refused, the case that says so (01, Numbers for a refused call)
-    abbrev pub pieceAnswer : Told
-    pieceAnswer =
-        record {
-          answer = answer pieceVerdict 0 0;
-          piece = afterwards pieceVerdict (caseOf Refused)
-              (pieceOf (at P cellAt) (at P (cellAt + P .w)) (at P (cellAt + P .w + 1)) (at P (cellAt + 1)) k);
-        }
+  -- refused, the case that says so (01, Numbers for a refused call)
+  abbrev pub pieceAnswer : Told
+  pieceAnswer =
+      record {
+        answer = answer pieceVerdict 0 0;
+        piece = afterwards pieceVerdict (caseOf Refused)
+            (pieceOf (at P (cellAt P k x y)) (at P ((cellAt P k x y) + P .w)) (at P ((cellAt P k x y) + P .w + 1)) (at P ((cellAt P k x y) + 1)) k);
+      }

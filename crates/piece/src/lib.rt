@@ -176,7 +176,7 @@ fn corners_at(px: &[u8], w: usize, t: usize) -> Corners
 
 // The refusals 1 2 3 11 10.
 fn piece_verdict(w: usize, h: usize, px: &[u8], k: u8, x: usize, y: usize) -> Verdict
-    ensures { λ r. ⌜ r ≡ pieceVerdict (picture w h (now (px .entry))) k x y eight ⌝ }
+    ensures { λ r. ⌜ r ≡ pieceVerdict eight (picture w h (now (px .entry))) k x y ⌝ }
 {
     let ks = [k];
     let v = level_verdict(w, h, px, &ks);
@@ -193,7 +193,7 @@ fn piece_verdict(w: usize, h: usize, px: &[u8], k: u8, x: usize, y: usize) -> Ve
 
 // The piece of level k in the cell whose top left sample is (x, y).
 pub fn piece_at(w: usize, h: usize, px: &[u8], k: u8, x: usize, y: usize) -> Found
-    ensures { λ r. ⌜ told r ≡ pieceAnswer (picture w h (now (px .entry))) k x y eight ⌝ }
+    ensures { λ r. ⌜ told r ≡ pieceAnswer eight (picture w h (now (px .entry))) k x y ⌝ }
 {
     let v = piece_verdict(w, h, px, k, x, y);
     if v.number != 0 {

@@ -30,8 +30,8 @@ module _ (P : Picture) (ks work out : List ℕ) where
 pub frame-kept : (P : Picture) (room : List ℕ) → frameVerdict eight P room .number ≢ 0 → frameRoom eight P room ≡ room
 frame-kept P room n = refused-after (frameVerdict eight P room) room _ n
 
-pub paint-kept : (w v : ℕ) (ks ws : List ℕ) (h : ℕ) (room : List ℕ) → paintVerdict eight w v ks ws h room .number ≢ 0 → paintRoom eight w v ks ws h room ≡ room
-paint-kept w v ks ws h room n = refused-after (paintVerdict eight w v ks ws h room) room _ n
+pub paint-kept : (w h v : ℕ) (ks ws room : List ℕ) → paintVerdict eight w h v ks ws room .number ≢ 0 → paintRoom eight w h v ks ws room ≡ room
+paint-kept w h v ks ws room n = refused-after (paintVerdict eight w h v ks ws room) room _ n
 
 pub write-kept : (w h v : ℕ) (ks ws room : List ℕ) → writeVerdict w h v ks ws room .number ≢ 0 → writeRoom w h v ks ws room ≡ room
 write-kept w h v ks ws room n = refused-after (writeVerdict w h v ks ws room) room _ n

@@ -115,7 +115,7 @@ module _ (P : Picture) (ks : List ℕ) (S : Scan P ks) where
 
   -- ---- painting
   module _ (room : List ℕ) (roomy : size P ≤ length room) where
-    pub paints : paintVerdict eight (P .w) (at P 0) ks (listed eight P ks) (P .h) room ≡ record { number = 0; place = 0 }
+    pub paints : paintVerdict eight (P .w) (P .h) (at P 0) ks (listed eight P ks) room ≡ record { number = 0; place = 0 }
     paints =
         let W = wordsFitRow eight (P .w) (P .h) ks (listed eight P ks) in
         let R = roomRow (P .w) (P .h) room in
@@ -124,13 +124,13 @@ module _ (P : Picture) (ks : List ℕ) (S : Scan P ks) where
         ∙ passed W (R ∷ []) words-row
         ∙ passed R [] (le-ltb _ _ roomy)
 
-    paints-all : paintRoom eight (P .w) (at P 0) ks (listed eight P ks) (P .h) room ≡ painting eight (P .w) (at P 0) ks (listed eight P ks) (P .h) ++ drop (size P) room
+    paints-all : paintRoom eight (P .w) (P .h) (at P 0) ks (listed eight P ks) room ≡ painting eight (P .w) (P .h) (at P 0) ks (listed eight P ks) ++ drop (size P) room
     paints-all =
-        done-after (paintVerdict eight (P .w) (at P 0) ks (listed eight P ks) (P .h) room) room
-        (painting eight (P .w) (at P 0) ks (listed eight P ks) (P .h) ++ drop (size P) room)
+        done-after (paintVerdict eight (P .w) (P .h) (at P 0) ks (listed eight P ks) room) room
+        (painting eight (P .w) (P .h) (at P 0) ks (listed eight P ks) ++ drop (size P) room)
         (ap (λ (t : Verdict). t .number) paints)
 
-    pub paints-back : paintRoom eight (P .w) (at P 0) ks (listed eight P ks) (P .h) room ≡ steppedPicture ks P ++ drop (size P) room
+    pub paints-back : paintRoom eight (P .w) (P .h) (at P 0) ks (listed eight P ks) room ≡ steppedPicture ks P ++ drop (size P) room
     paints-back = paints-all ∙ ap (λ (l : List ℕ). l ++ drop (size P) room) (painted-is-stepped P ks S)
 
   -- ---- writing, with any border value
@@ -165,5 +165,5 @@ module _ (P : Picture) (ks : List ℕ) (S : Scan P ks) where
 
 -- a picture of bytes with a constant border is painted whole
 pub paints-matte : (P : Picture) → Scan P allLevels → length (P .px) ≡ size P → ((i : ℕ) → at P i ≤ 255) → (room : List ℕ) → size P ≤ length room
-    → paintRoom eight (P .w) (at P 0) allLevels (listed eight P allLevels) (P .h) room ≡ P .px ++ drop (size P) room
+    → paintRoom eight (P .w) (P .h) (at P 0) allLevels (listed eight P allLevels) room ≡ P .px ++ drop (size P) room
 paints-matte P S n q room roomy = paints-all P allLevels S room roomy ∙ ap (λ (l : List ℕ). l ++ drop (size P) room) (painted-is-matte P S n q)

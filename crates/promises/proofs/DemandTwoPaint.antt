@@ -25,7 +25,7 @@ module _ (P : Picture) (ks : List ℕ) (S : Scan P ks) where
   unfolding painted turns
   painted-at x y a b = paint-back eight P (fits P ks S) (B P ks S) ks (S .levels) x y a b
 
-  pub painted-is-stepped : painting eight (P .w) (at P 0) ks (listed eight P ks) (P .h) ≡ steppedPicture ks P
+  pub painted-is-stepped : painting eight (P .w) (P .h) (at P 0) ks (listed eight P ks) ≡ steppedPicture ks P
   unfolding painting steppedPicture
   painted-is-stepped =
       let wide : 0 < P .w = omega (arith, sides-in (P .w) (P .h) (S .sides) .w-least) in
@@ -44,6 +44,6 @@ stepped-self P q = build-same (λ i. stepped allLevels (at P i)) (at P) 0 (size 
 
 -- a picture of bytes with a constant border comes back whole
 pub painted-is-matte : (P : Picture) → Scan P allLevels → length (P .px) ≡ size P → ((i : ℕ) → at P i ≤ 255)
-    → painting eight (P .w) (at P 0) allLevels (listed eight P allLevels) (P .h) ≡ P .px
+    → painting eight (P .w) (P .h) (at P 0) allLevels (listed eight P allLevels) ≡ P .px
 painted-is-matte P S n q =
     painted-is-stepped P allLevels S ∙ stepped-self P q ∙ sym (is-build (at P) (P .px) (size P) n (λ j h. refl))

@@ -92,11 +92,11 @@ pub frame-holds : (P : Picture) (room : List ℕ) → frameAnswer eight P room .
 unfolding framed
 frame-holds P room e = let v = frameVerdict eight P room in filled v (size P) (framed eight P) room (build-length _ 0 (size P)) (sym (same-number v 0 0) ∙ e)
 
-pub paint-holds : (w v : ℕ) (ks ws : List ℕ) (h : ℕ) (room : List ℕ) → paintAnswer eight w v ks ws h room .number ≡ 0
-    → Holds (w * h) (painting eight w v ks ws h) room (paintRoom eight w v ks ws h room)
+pub paint-holds : (w h v : ℕ) (ks ws room : List ℕ) → paintAnswer eight w h v ks ws room .number ≡ 0
+    → Holds (w * h) (painting eight w h v ks ws) room (paintRoom eight w h v ks ws room)
 unfolding painting
-paint-holds w v ks ws h room e =
-    let t = paintVerdict eight w v ks ws h room in filled t (w * h) (painting eight w v ks ws h) room (build-length _ 0 (w * h)) (sym (same-number t 0 0) ∙ e)
+paint-holds w h v ks ws room e =
+    let t = paintVerdict eight w h v ks ws room in filled t (w * h) (painting eight w h v ks ws) room (build-length _ 0 (w * h)) (sym (same-number t 0 0) ∙ e)
 
 pub write-holds : (w h v : ℕ) (ks ws room : List ℕ) → writeAnswer w h v ks ws room .number ≡ 0
     → Holds (fileLength w h v ks ws) (file w h v ks ws) room (writeRoom w h v ks ws room)
@@ -156,11 +156,11 @@ frame-done κs (w, (h, (px, (room, u)))) z ws p e =
 
 abbrev pub PaintHolds : Property Paint.paint_words.ended
 PaintHolds κs (w, (h, (v, (levels, (words, (room, u)))))) z (w′, (h′, (v′, (levels′, (words′, (room′, u′)))))) =
-    Holds (w * h) (painting eight w v (now levels) (now words) h) (now room) (now room′)
+    Holds (w * h) (painting eight w h v (now levels) (now words)) (now room) (now room′)
 
 pub paint-done : Done Paint.paint_words.ended Paint.paint_words.Reads.Learnt (λ κs z. z .number) PaintHolds
 paint-done κs (w, (h, (v, (levels, (words, (room, u)))))) z ws p e =
-    holds-as _ _ _ _ _ _ refl (p .1) (paint-holds w v (now levels) (now words) h (now room) (number-of z _ (p .0) e))
+    holds-as _ _ _ _ _ _ refl (p .1) (paint-holds w h v (now levels) (now words) (now room) (number-of z _ (p .0) e))
 
 abbrev pub WriteHolds : Property Olr.write_file.ended
 WriteHolds κs (w, (h, (v, (levels, (words, (room, u)))))) z (w′, (h′, (v′, (levels′, (words′, (room′, u′)))))) =

@@ -53,7 +53,7 @@ held n h = round-whole binary64 false n h
 module _ (t : Float → Bool) (wholes : (n : ℕ) → t (whole n) ≡ false) (alongs : (n a b : ℕ) → n ≤ 2 ^ 53 → 0 < b → b ≤ 2 ^ 53 → t (along n a b) ≡ false) (P : Picture) (bytes : Bytes P) where
   module _ (k c : ℕ) (code : c < 2 ^ 32) where
     abbrev v : Verdict
-    v = crossingVerdict P k c eight
+    v = crossingVerdict eight P k c
 
     den-few : den P k c ≤ 2 ^ 53
     unfolding den
@@ -65,7 +65,7 @@ module _ (t : Float → Bool) (wholes : (n : ℕ) → t (whole n) ≡ false) (al
     row-few : Edgel.row (P .w) c ≤ 2 ^ 53
     row-few = omega (arith, div-le-self (c / 2) (P .w), div-le-self c 2)
 
-    pub crossing-each : (t (crossingAnswer P k c eight .x) ≡ false) × (t (crossingAnswer P k c eight .y) ≡ false)
+    pub crossing-each : (t (crossingAnswer eight P k c .x) ≡ false) × (t (crossingAnswer eight P k c .y) ≡ false)
     crossing-each =
         by-test (eqb (v .number) 0)
         (λ e.
@@ -153,10 +153,10 @@ module _ (t : Float → Bool) (k : ℕ) (quotients : (z : ℤ) (n : ℕ) → 0 <
           ratio-each (excess p0 p1 p2 p3 k) (pos 2 *ℤ (d p0 p1 p2 p3 *ℤ d p0 p1 p2 p3)) (q .0) (q .1) excess-few,
         ))
 
-  pub piece-each : (P : Picture) → Bytes P → (x y : ℕ) → noneOf t (pieceAnswer P k x y eight .piece .values) ≡ true
+  pub piece-each : (P : Picture) → Bytes P → (x y : ℕ) → noneOf t (pieceAnswer eight P k x y .piece .values) ≡ true
   piece-each P bytes x y =
       let i = cellAt P k x y in
-      either (λ (p : Case). noneOf t (p .values)) (eqb (pieceVerdict P k x y eight .number) 0)
+      either (λ (p : Case). noneOf t (p .values)) (eqb (pieceVerdict eight P k x y .number) 0)
       (pieceOf (at P i) (at P (i + P .w)) (at P (i + P .w + 1)) (at P (i + 1)) k) (caseOf Refused)
       (of-each (at P i) (at P (i + P .w)) (at P (i + P .w + 1)) (at P (i + 1)) (bytes i) (bytes (i + P .w)) (bytes (i + P .w + 1)) (bytes (i + 1))) refl
 

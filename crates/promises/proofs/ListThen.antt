@@ -54,16 +54,16 @@ module _ (P : Picture) (ks work out : List ℕ) (done : listAnswer eight P ks wo
   -- ---- painting
   module _ (room : List ℕ) (roomy : size P ≤ length room) where
     -- of the list itself
-    painted : (new : List ℕ) → painting eight (P .w) (at P 0) ks (listed eight P ks) (P .h) ≡ new
-        → (paintAnswer eight (P .w) (at P 0) ks (shown P ks work out) (P .h) room .number ≡ 0) × Holds (size P) new room (paintRoom eight (P .w) (at P 0) ks (shown P ks work out) (P .h) room)
+    painted : (new : List ℕ) → painting eight (P .w) (P .h) (at P 0) ks (listed eight P ks) ≡ new
+        → (paintAnswer eight (P .w) (P .h) (at P 0) ks (shown P ks work out) room .number ≡ 0) × Holds (size P) new room (paintRoom eight (P .w) (P .h) (at P 0) ks (shown P ks work out) room)
     painted new e =
-        let v = paintVerdict eight (P .w) (at P 0) ks (listed eight P ks) (P .h) room in
-        let z : paintAnswer eight (P .w) (at P 0) ks (listed eight P ks) (P .h) room .number ≡ 0 = same-number v 0 0 ∙ ap (λ (t : Verdict). t .number) (paints P ks scan room roomy) in
-        subst (λ (ws : List ℕ). (paintAnswer eight (P .w) (at P 0) ks ws (P .h) room .number ≡ 0) × Holds (size P) new room (paintRoom eight (P .w) (at P 0) ks ws (P .h) room)) is-listed
-        (z, subst (λ (l : List ℕ). Holds (size P) l room (paintRoom eight (P .w) (at P 0) ks (listed eight P ks) (P .h) room)) e (paint-holds (P .w) (at P 0) ks (listed eight P ks) (P .h) room z))
+        let v = paintVerdict eight (P .w) (P .h) (at P 0) ks (listed eight P ks) room in
+        let z : paintAnswer eight (P .w) (P .h) (at P 0) ks (listed eight P ks) room .number ≡ 0 = same-number v 0 0 ∙ ap (λ (t : Verdict). t .number) (paints P ks scan room roomy) in
+        subst (λ (ws : List ℕ). (paintAnswer eight (P .w) (P .h) (at P 0) ks ws room .number ≡ 0) × Holds (size P) new room (paintRoom eight (P .w) (P .h) (at P 0) ks ws room)) is-listed
+        (z, subst (λ (l : List ℕ). Holds (size P) l room (paintRoom eight (P .w) (P .h) (at P 0) ks (listed eight P ks) room)) e (paint-holds (P .w) (P .h) (at P 0) ks (listed eight P ks) room z))
 
-    pub list-paints : (paintAnswer eight (P .w) (at P 0) ks (shown P ks work out) (P .h) room .number ≡ 0)
-        × Holds (size P) (steppedPicture ks P) room (paintRoom eight (P .w) (at P 0) ks (shown P ks work out) (P .h) room)
+    pub list-paints : (paintAnswer eight (P .w) (P .h) (at P 0) ks (shown P ks work out) room .number ≡ 0)
+        × Holds (size P) (steppedPicture ks P) room (paintRoom eight (P .w) (P .h) (at P 0) ks (shown P ks work out) room)
     list-paints = painted (steppedPicture ks P) (painted-is-stepped P ks scan)
 
   -- ---- storing
@@ -80,8 +80,8 @@ module _ (P : Picture) (ks work out : List ℕ) (done : listAnswer eight P ks wo
 
 -- a picture of bytes
 pub list-matte : (P : Picture) (work out : List ℕ) → listAnswer eight P allLevels work out .number ≡ 0 → ((i : ℕ) → at P i ≤ 255) → (room : List ℕ) → size P ≤ length room
-    → (paintAnswer eight (P .w) (at P 0) allLevels (shown P allLevels work out) (P .h) room .number ≡ 0)
-    × Holds (size P) (P .px) room (paintRoom eight (P .w) (at P 0) allLevels (shown P allLevels work out) (P .h) room)
+    → (paintAnswer eight (P .w) (P .h) (at P 0) allLevels (shown P allLevels work out) room .number ≡ 0)
+    × Holds (size P) (P .px) room (paintRoom eight (P .w) (P .h) (at P 0) allLevels (shown P allLevels work out) room)
 list-matte P work out done q room roomy =
     painted P allLevels work out done room roomy (P .px)
     (painted-is-matte P (scan P allLevels work out done) (list-whole P allLevels work out (verdict-done P allLevels work out done)) q)

@@ -164,12 +164,12 @@ unfolding along
 along-not n a b = plus-is (add binary64 (whole n) (div binary64 (whole a) (whole b))) (add-plus binary64 (whole n) (div binary64 (whole a) (whole b)) (whole-plus n) (div-plus binary64 (whole a) (whole b) (whole-plus a) (whole-plus b)))
 
 -- ---- the calls
-pub crossing-plus : (P : Picture) → Bytes P → (k c : ℕ) → c < 2 ^ 32 → (minusZero (crossingAnswer P k c eight .x) ≡ false) × (minusZero (crossingAnswer P k c eight .y) ≡ false)
+pub crossing-plus : (P : Picture) → Bytes P → (k c : ℕ) → c < 2 ^ 32 → (minusZero (crossingAnswer eight P k c .x) ≡ false) × (minusZero (crossingAnswer eight P k c .y) ≡ false)
 crossing-plus P bytes k c code = crossing-each minusZero whole-not (λ n a b h p q. along-not n a b) P bytes k c code
 
-pub piece-plus : (P : Picture) → Bytes P → (k x y : ℕ) → k < 256 → noneOf minusZero (pieceAnswer P k x y eight .piece .values) ≡ true
+pub piece-plus : (P : Picture) → Bytes P → (k x y : ℕ) → k < 256 → noneOf minusZero (pieceAnswer eight P k x y .piece .values) ≡ true
 piece-plus P bytes k x y l = piece-each minusZero k (λ z n p q h. quotient-not z n p q (h l)) P bytes x y
 
 pub c-piece-plus : (P : Picture) → Bytes P → (k x y : ℕ) → k < 256
-    → let f = toldPiece (pieceAnswer P k x y eight) in noneOf minusZero (f .xs ∷ f .ys ∷ f .delta ∷ []) ≡ true
-c-piece-plus P bytes k x y l = told-each minusZero whole-not (pieceAnswer P k x y eight) (piece-plus P bytes k x y l)
+    → let f = toldPiece (pieceAnswer eight P k x y) in noneOf minusZero (f .xs ∷ f .ys ∷ f .delta ∷ []) ≡ true
+c-piece-plus P bytes k x y l = told-each minusZero whole-not (pieceAnswer eight P k x y) (piece-plus P bytes k x y l)

@@ -78,12 +78,12 @@ unfolding along
 along-number n a b h p q = add-number binary64 (whole n) (div binary64 (whole a) (whole b)) false n (held n h) (over-number (pos a) b p q)
 
 -- ---- the calls
-pub crossing-numbers : (P : Picture) → Bytes P → (k c : ℕ) → c < 2 ^ 32 → (isNan (crossingAnswer P k c eight .x) ≡ false) × (isNan (crossingAnswer P k c eight .y) ≡ false)
+pub crossing-numbers : (P : Picture) → Bytes P → (k c : ℕ) → c < 2 ^ 32 → (isNan (crossingAnswer eight P k c .x) ≡ false) × (isNan (crossingAnswer eight P k c .y) ≡ false)
 crossing-numbers P bytes k c code = crossing-each isNan (λ n. int-number (pos n)) along-number P bytes k c code
 
-pub piece-numbers : (P : Picture) → Bytes P → (k x y : ℕ) → noneOf isNan (pieceAnswer P k x y eight .piece .values) ≡ true
+pub piece-numbers : (P : Picture) → Bytes P → (k x y : ℕ) → noneOf isNan (pieceAnswer eight P k x y .piece .values) ≡ true
 piece-numbers P bytes k x y = piece-each isNan k (λ z n p q h. over-number z n p q) P bytes x y
 
 pub c-piece-numbers : (P : Picture) → Bytes P → (k x y : ℕ)
-    → let f = toldPiece (pieceAnswer P k x y eight) in noneOf isNan (f .xs ∷ f .ys ∷ f .delta ∷ []) ≡ true
-c-piece-numbers P bytes k x y = told-each isNan (λ n. int-number (pos n)) (pieceAnswer P k x y eight) (piece-numbers P bytes k x y)
+    → let f = toldPiece (pieceAnswer eight P k x y) in noneOf isNan (f .xs ∷ f .ys ∷ f .delta ∷ []) ≡ true
+c-piece-numbers P bytes k x y = told-each isNan (λ n. int-number (pos n)) (pieceAnswer eight P k x y) (piece-numbers P bytes k x y)

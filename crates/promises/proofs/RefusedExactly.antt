@@ -147,18 +147,18 @@ module _ (P : Picture) where
   pub frame-exactly : (room : List ℕ) → Exactly (1 ∷ 2 ∷ 9 ∷ []) (frameRows eight P room) (frameAnswer eight P room)
   frame-exactly room = exactly _ (frameRows eight P room) _ _ refl refl
 
-  pub crossing-exactly : (k c : ℕ) → Exactly (1 ∷ 2 ∷ 3 ∷ 8 ∷ 10 ∷ []) (crossingRows P k c eight) (crossingAnswer P k c eight .answer)
-  crossing-exactly k c = exactly _ (crossingRows P k c eight) _ _ refl refl
+  pub crossing-exactly : (k c : ℕ) → Exactly (1 ∷ 2 ∷ 3 ∷ 8 ∷ 10 ∷ []) (crossingRows eight P k c) (crossingAnswer eight P k c .answer)
+  crossing-exactly k c = exactly _ (crossingRows eight P k c) _ _ refl refl
 
-  pub piece-exactly : (k x y : ℕ) → Exactly (1 ∷ 2 ∷ 3 ∷ 11 ∷ 10 ∷ []) (pieceRows P k x y eight) (pieceAnswer P k x y eight .answer)
-  piece-exactly k x y = exactly _ (pieceRows P k x y eight) _ _ refl refl
+  pub piece-exactly : (k x y : ℕ) → Exactly (1 ∷ 2 ∷ 3 ∷ 11 ∷ 10 ∷ []) (pieceRows eight P k x y) (pieceAnswer eight P k x y .answer)
+  piece-exactly k x y = exactly _ (pieceRows eight P k x y) _ _ refl refl
 
 module _ (w h : ℕ) (ws : List ℕ) where
   pub member-exactly : (n x y : ℕ) → Exactly (1 ∷ 8 ∷ 11 ∷ []) (memberRows eight w h ws n x y) (memberAnswer eight w h ws n x y .answer)
   member-exactly n x y = exactly _ (memberRows eight w h ws n x y) _ _ refl refl
 
-  pub paint-exactly : (v : ℕ) (ks room : List ℕ) → Exactly (1 ∷ 3 ∷ 8 ∷ 9 ∷ []) (paintRows eight w v ks ws h room) (paintAnswer eight w v ks ws h room)
-  paint-exactly v ks room = exactly _ (paintRows eight w v ks ws h room) _ _ refl refl
+  pub paint-exactly : (v : ℕ) (ks room : List ℕ) → Exactly (1 ∷ 3 ∷ 8 ∷ 9 ∷ []) (paintRows eight w h v ks ws room) (paintAnswer eight w h v ks ws room)
+  paint-exactly v ks room = exactly _ (paintRows eight w h v ks ws room) _ _ refl refl
 
   pub write-exactly : (v : ℕ) (ks room : List ℕ) → Exactly (1 ∷ 3 ∷ 16 ∷ 8 ∷ 15 ∷ []) (writeRows w h v ks ws room) (writeAnswer w h v ks ws room)
   write-exactly v ks room = exactly _ (writeRows w h v ks ws room) _ _ refl refl
@@ -177,7 +177,7 @@ pub part-exactly : (n : ℕ) (ws : List ℕ) → (part eight n ws ≡ []) ↔ (t
 part-exactly n ws = (λ e. none-left n ws (ap (λ (l : List ℕ). length l) e), part-empty eight n ws)
 
 -- ---- the calls for C whose answers have another form
-pub c-piece-exactly : (P : Picture) (k x y : ℕ) → Exactly (1 ∷ 2 ∷ 3 ∷ 11 ∷ 10 ∷ []) (pieceRows P k x y eight) (toldPiece (pieceAnswer P k x y eight) .answer)
+pub c-piece-exactly : (P : Picture) (k x y : ℕ) → Exactly (1 ∷ 2 ∷ 3 ∷ 11 ∷ 10 ∷ []) (pieceRows eight P k x y) (toldPiece (pieceAnswer eight P k x y) .answer)
 c-piece-exactly = piece-exactly
 
 pub c-part-exactly : (n : ℕ) (ws : List ℕ) → (partPlace n ws .count ≡ 0) ↔ (tally (flagged eight) ws ≤ n)
@@ -187,15 +187,15 @@ c-part-exactly n ws = (none-left n ws, λ h. ap (λ (l : List ℕ). length l) (p
 pub refuses : (v : Verdict) (words lines : ℕ) → answer v words lines .number ≢ 0 → v .number ≢ 0
 refuses v words lines q z = q (same-number v words lines ∙ z)
 
-pub crossing-nothing : (P : Picture) (k c : ℕ) → crossingAnswer P k c eight .answer .number ≢ 0
-    → (crossingAnswer P k c eight .heading ≡ 0) × (crossingAnswer P k c eight .num ≡ 0) × (crossingAnswer P k c eight .den ≡ 0) × (crossingAnswer P k c eight .x ≡ whole 0) × (crossingAnswer P k c eight .y ≡ whole 0)
+pub crossing-nothing : (P : Picture) (k c : ℕ) → crossingAnswer eight P k c .answer .number ≢ 0
+    → (crossingAnswer eight P k c .heading ≡ 0) × (crossingAnswer eight P k c .num ≡ 0) × (crossingAnswer eight P k c .den ≡ 0) × (crossingAnswer eight P k c .x ≡ whole 0) × (crossingAnswer eight P k c .y ≡ whole 0)
 crossing-nothing P k c q =
-    let v = crossingVerdict P k c eight in
+    let v = crossingVerdict eight P k c in
     let n : v .number ≢ 0 = refuses v 0 0 q in
     (refused-after v 0 _ n, refused-after v 0 _ n, refused-after v 0 _ n, refused-after v (whole 0) _ n, refused-after v (whole 0) _ n)
 
-pub piece-nothing : (P : Picture) (k x y : ℕ) → pieceAnswer P k x y eight .answer .number ≢ 0 → pieceAnswer P k x y eight .piece ≡ caseOf Refused
-piece-nothing P k x y q = let v = pieceVerdict P k x y eight in refused-after v (caseOf Refused) _ (refuses v 0 0 q)
+pub piece-nothing : (P : Picture) (k x y : ℕ) → pieceAnswer eight P k x y .answer .number ≢ 0 → pieceAnswer eight P k x y .piece ≡ caseOf Refused
+piece-nothing P k x y q = let v = pieceVerdict eight P k x y in refused-after v (caseOf Refused) _ (refuses v 0 0 q)
 
 pub part-nothing : (n : ℕ) (ws : List ℕ) → tally (flagged eight) ws ≤ n → (partPlace n ws .start ≡ 0) × (partPlace n ws .count ≡ 0)
 part-nothing n ws h = (part-nowhere eight n ws h, ap (λ (l : List ℕ). length l) (part-empty eight n ws h))

@@ -75,8 +75,8 @@ frame-keeps κs (w, (h, (px, (room, u)))) z ws p q =
 
 pub paint-keeps : Keeps Paint.paint_words.ended Paint.paint_words.Reads.Learnt (λ κs z. z .number) (λ κs e. e)
 paint-keeps κs (w, (h, (v, (levels, (words, (room, u)))))) z ws p q =
-    let n = refused-by (paintVerdict eight w v (now levels) (now words) h (now room)) 0 0 z (p .0) q in
-    λ i. (w, (h, (v, (levels, (words, (at-last room ((p .1 ∙ paint-kept w v (now levels) (now words) h (now room) n) i), u))))))
+    let n = refused-by (paintVerdict eight w h v (now levels) (now words) (now room)) 0 0 z (p .0) q in
+    λ i. (w, (h, (v, (levels, (words, (at-last room ((p .1 ∙ paint-kept w h v (now levels) (now words) (now room) n) i), u))))))
 
 pub write-keeps : Keeps Olr.write_file.ended Olr.write_file.Reads.Learnt (λ κs z. z .number) (λ κs e. e)
 write-keeps κs (w, (h, (v, (levels, (words, (file, u)))))) z ws p q =

@@ -37,7 +37,7 @@ shown =
     ∷ lines (flat 2 2) 0
     ∷ lines (flat 2 2) 5
     ∷ (entries eight pair (0 ∷ 1 ∷ []) ∷ [])
-    ∷ ((pieceAnswer pair 0 1 1 eight .piece .number ∷ pieceAnswer pair 1 1 1 eight .piece .number ∷ []) ∷ [])
+    ∷ ((pieceAnswer eight pair 0 1 1 .piece .number ∷ pieceAnswer eight pair 1 1 1 .piece .number ∷ []) ∷ [])
     ∷ ((listVerdict eight (flat 2 2) (254 ∷ []) (replicate 4 0) [] .number ∷ listVerdict eight (flat 2 2) (255 ∷ []) (replicate 4 0) [] .number ∷ []) ∷ [])
     ∷ ((frameVerdict eight (flat 2048 2) (replicate 4096 0) .number ∷ frameVerdict eight (flat 2 2048) (replicate 4096 0) .number ∷ frameVerdict eight (flat 2049 2) (replicate 4098 0) .number ∷ frameVerdict eight (flat 2 2049) (replicate 4098 0) .number ∷ []) ∷ [])
     ∷ []

@@ -21,7 +21,7 @@ returns : tie.Need-returns
 returns c =
     let p = c .before .before .paint-verdict in
     let a = c .before .before .before .before .before .before .args in
-    let F = painting eight (a .w) (a .v) (a .levels .now) (a .words .now) (a .h) ++ drop (a .w * a .h) (a .room .now) in (
+    let F = painting eight (a .w) (a .h) (a .v) (a .levels .now) (a .words .now) ++ drop (a .w * a .h) (a .room .now) in (
       sym (refused-answer (p .result) 0 0 (c .if1 .taken)) ∙ ap (λ (z : Verdict). answer z 0 0) (p .ensures .0),
       sym (refused-after (p .result) (a .room .now) F (c .if1 .taken)) ∙ ap (λ (z : Verdict). afterwards z (a .room .now) F) (p .ensures .0),
     )
@@ -53,7 +53,7 @@ returns-2 c =
     let a = d .before .before .before .before .before .before .before .before .before .args in
     let q = p .ensures .1 z in
     let n = d .before .area in
-    let F = painting eight (a .w) (a .v) (a .levels .now) (a .words .now) (a .h) ++ drop (a .w * a .h) (a .room .now) in (
+    let F = painting eight (a .w) (a .h) (a .v) (a .levels .now) (a .words .now) ++ drop (a .w * a .h) (a .room .now) in (
       sym (done-answer (p .result) 0 0 z) ∙ ap (λ (z : Verdict). answer z 0 0) (p .ensures .0),
       painting-list eight (a .w) (a .v) (a .levels .now) (a .words .now) (omega (arith, q .0 .w-least)) (a .h) (a .room .now) _ _ (q .2) (rw (n .ensures .0) at (d .blank .ensures)) (c .before .before .add-levels .ensures)
           ∙ sym (done-after (p .result) (a .room .now) F z)

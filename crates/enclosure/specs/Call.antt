@@ -1,6 +1,7 @@
 -- The tree call. Assumes nothing.
 -- Definitions: `heads` the horizontal crossings of a level, `half` half of those of all levels; `treeRows`, `treeVerdict`, `treeAnswer`, `treeWork`, `treeWords`, `treeEntries` the call: its refusals by their
---   order, the one given, its answer, the work bytes, the word places and the tree places afterwards.
+--   order, the one given, its answer, the work bytes, the word places and the tree places afterwards; `TreeCall` all of it.
+use mathlib.Core.Path.{_≡_}
 use mathlib.Core.List.{List, [], _∷_, _++_}
 use Prim.Native.Nat.{ℕ, _+_, _*_, _/_}
 use lib.Dec.{ltb}
@@ -43,3 +44,11 @@ module _ (L : Layout) (P : Picture) (ks work out tree : List ℕ) where
   -- the first places hold the entries, a line each, the rest are left (01, Numbers for a refused call)
   abbrev pub treeEntries : List ℕ
   treeEntries = afterwards treeVerdict tree (entries L P ks ++ drop (lineCount L P ks) tree)
+
+-- what the tree call answers and leaves: its answer, the work bytes, the word places and the tree places afterwards (01, Numbers for a refused call)
+abbrev pub TreeCall : Layout → Picture → List ℕ → List ℕ → List ℕ → List ℕ → Answer → List ℕ → List ℕ → List ℕ → Type 0
+TreeCall L P ks work out tree r work′ out′ tree′ =
+    (r ≡ treeAnswer L P ks work out tree)
+    × (work′ ≡ treeWork L P ks work out tree)
+    × (out′ ≡ treeWords L P ks work out tree)
+    × (tree′ ≡ treeEntries L P ks work out tree)

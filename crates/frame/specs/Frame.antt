@@ -1,5 +1,6 @@
 -- Framing: the border set to its lower median. Assumes nothing.
--- Definitions: `borderSamples` the samples on the border; `median` the lower median of a list; `framed` the picture with that border; `frameRows`, `frameVerdict`, `frameAnswer`, `frameRoom` the call.
+-- Definitions: `borderSamples` the samples on the border; `median` the lower median of a list; `framed` the picture with that border; `frameRows`, `frameVerdict`, `frameAnswer`, `frameRoom`, `FrameCall` the call.
+use mathlib.Core.Path.{_≡_}
 use mathlib.Core.Bool.{Bool, cond}
 use mathlib.Core.List.{List, [], _∷_, _++_}
 use Prim.Native.Nat.{ℕ, suc, _+_, _*_}
@@ -39,3 +40,7 @@ module _ (L : Layout) (P : Picture) where
 
     abbrev pub frameRoom : List ℕ
     frameRoom = afterwards frameVerdict room (framed ++ drop (size P) room)
+
+-- what the framing call answers and leaves: its answer, and the room afterwards (01, Numbers for a refused call)
+abbrev pub FrameCall : Layout → Picture → List ℕ → Answer → List ℕ → Type 0
+FrameCall L P room r room′ = (r ≡ frameAnswer L P room) × (room′ ≡ frameRoom L P room)

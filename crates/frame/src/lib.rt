@@ -16,7 +16,7 @@ ghost use Rattle.matte.specs.Layout.{eight};
 ghost use Rattle.matte.specs.Picture.{picture};
 ghost use Rattle.refuse.specs.Refusal.{row, verdict, sidesRow, samplesRow};
 ghost use Rattle.refuse.specs.Shape.{Sides};
-ghost use Rattle.frame.specs.Frame.{borderSamples, median, frameAnswer, frameRoom};
+ghost use Rattle.frame.specs.Frame.{borderSamples, median, FrameCall};
 ghost use Rattle.frame.specs.Counts.{seen, headOf, counts, Run, under, halfway, halfFrom};
 ghost use Rattle.frame.specs.Framing.{framing};
 
@@ -244,16 +244,16 @@ fn frame_rows(w: usize, h: usize, px: &[u8], v: u8, room: &mut [u8])
 fn frame_verdict(w: usize, h: usize, px: &[u8], places: usize) -> Verdict
     ensures { λ r. ⌜ (r ≡ verdict (sidesRow w h ∷ samplesRow (picture w h (now (px .entry))) ∷ row 9 (ltb places (w * h)) ∷ [])) × (r .number ≡ 0 → (Sides w h) × (length (now (px .entry)) ≡ w * h) × (w * h ≤ places)) ⌝ }
 {
-    let v = shape_verdict(w, h, px);
-    if v.number != 0 {
-        return v;
+    let shape = shape_verdict(w, h, px);
+    if shape.number != 0 {
+        return shape;
     }
     row_verdict(9, places < area(w, h), 0)
 }
 
 // The picture with all border samples set to their lower median, in the first w·h places of `room`.
 pub fn frame_picture(w: usize, h: usize, px: &[u8], room: &mut [u8]) -> Answer
-    ensures { λ r. ⌜ (r ≡ frameAnswer eight (picture w h (now (px .entry))) (now (room .entry))) × (now (room .exit) ≡ frameRoom eight (picture w h (now (px .entry))) (now (room .entry))) ⌝ }
+    ensures { λ r. ⌜ FrameCall eight (picture w h (now (px .entry))) (now (room .entry)) r (now (room .exit)) ⌝ }
 {
     let v = frame_verdict(w, h, px, room.len());
     if v.number != 0 {

@@ -19,15 +19,15 @@ use tree::tree;
 ghost use mathlib.Core.Path.{_≡_};
 ghost use Rattle.matte.specs.Layout.{eight};
 ghost use Rattle.matte.specs.Picture.{picture};
-ghost use Rattle.outline.specs.List.{listAnswer, listWork, listWords};
-ghost use Rattle.enclosure.specs.Call.{treeAnswer, treeWork, treeWords, treeEntries};
+ghost use Rattle.outline.specs.List.{ListCall};
+ghost use Rattle.enclosure.specs.Call.{TreeCall};
 ghost use Rattle.crossing.specs.Crossing.{crossingAnswer};
 ghost use Rattle.piece.specs.Piece.{told, pieceAnswer};
-ghost use Rattle.frame.specs.Frame.{frameAnswer, frameRoom};
+ghost use Rattle.frame.specs.Frame.{FrameCall};
 ghost use Rattle.paint.specs.Member.{memberAnswer};
-ghost use Rattle.paint.specs.Paint.{paintAnswer, paintRoom};
-ghost use Rattle.olr.specs.File.{writeAnswer, writeRoom};
-ghost use Rattle.olr.specs.Read.{readAnswer, readWords};
+ghost use Rattle.paint.specs.Paint.{PaintCall};
+ghost use Rattle.olr.specs.File.{WriteCall};
+ghost use Rattle.olr.specs.Read.{ReadCall};
 ghost use Rattle.host.specs.Piece.{toldPiece};
 ghost use Rattle.host.specs.Part.{partPlace};
 
@@ -94,7 +94,7 @@ pub extern "C" fn loafcanyon_list(
     work: &mut [u8],
     words: &mut [u32],
 ) -> Answer
-    ensures { λ r. ⌜ (r ≡ listAnswer eight (picture w h (now (px .entry))) (now (levels .entry)) (now (work .entry)) (now (words .entry))) × (now (work .exit) ≡ listWork eight (picture w h (now (px .entry))) (now (levels .entry)) (now (work .entry)) (now (words .entry))) × (now (words .exit) ≡ listWords eight (picture w h (now (px .entry))) (now (levels .entry)) (now (work .entry)) (now (words .entry))) ⌝ }
+    ensures { λ r. ⌜ ListCall eight (picture w h (now (px .entry))) (now (levels .entry)) (now (work .entry)) (now (words .entry)) r (now (work .exit)) (now (words .exit)) ⌝ }
 {
     list(w, h, px, levels, work, words)
 }
@@ -109,7 +109,7 @@ pub extern "C" fn loafcanyon_tree(
     words: &mut [u32],
     places: &mut [u32],
 ) -> Answer
-    ensures { λ r. ⌜ (r ≡ treeAnswer eight (picture w h (now (px .entry))) (now (levels .entry)) (now (work .entry)) (now (words .entry)) (now (places .entry))) × (now (work .exit) ≡ treeWork eight (picture w h (now (px .entry))) (now (levels .entry)) (now (work .entry)) (now (words .entry)) (now (places .entry))) × (now (words .exit) ≡ treeWords eight (picture w h (now (px .entry))) (now (levels .entry)) (now (work .entry)) (now (words .entry)) (now (places .entry))) × (now (places .exit) ≡ treeEntries eight (picture w h (now (px .entry))) (now (levels .entry)) (now (work .entry)) (now (words .entry)) (now (places .entry))) ⌝ }
+    ensures { λ r. ⌜ TreeCall eight (picture w h (now (px .entry))) (now (levels .entry)) (now (work .entry)) (now (words .entry)) (now (places .entry)) r (now (work .exit)) (now (words .exit)) (now (places .exit)) ⌝ }
 {
     tree(w, h, px, levels, work, words, places)
 }
@@ -143,7 +143,7 @@ pub extern "C" fn loafcanyon_piece(
 
 #[no_mangle]
 pub extern "C" fn loafcanyon_frame(w: usize, h: usize, px: &[u8], room: &mut [u8]) -> Answer
-    ensures { λ r. ⌜ (r ≡ frameAnswer eight (picture w h (now (px .entry))) (now (room .entry))) × (now (room .exit) ≡ frameRoom eight (picture w h (now (px .entry))) (now (room .entry))) ⌝ }
+    ensures { λ r. ⌜ FrameCall eight (picture w h (now (px .entry))) (now (room .entry)) r (now (room .exit)) ⌝ }
 {
     frame_picture(w, h, px, room)
 }
@@ -183,7 +183,7 @@ pub extern "C" fn loafcanyon_paint(
     words: &[u32],
     room: &mut [u8],
 ) -> Answer
-    ensures { λ r. ⌜ (r ≡ paintAnswer eight w h v (now (levels .entry)) (now (words .entry)) (now (room .entry))) × (now (room .exit) ≡ paintRoom eight w h v (now (levels .entry)) (now (words .entry)) (now (room .entry))) ⌝ }
+    ensures { λ r. ⌜ PaintCall eight w h v (now (levels .entry)) (now (words .entry)) (now (room .entry)) r (now (room .exit)) ⌝ }
 {
     paint_words(w, h, v, levels, words, room)
 }
@@ -197,14 +197,14 @@ pub extern "C" fn loafcanyon_write(
     words: &[u32],
     file: &mut [u8],
 ) -> Answer
-    ensures { λ r. ⌜ (r ≡ writeAnswer w h v (now (levels .entry)) (now (words .entry)) (now (file .entry))) × (now (file .exit) ≡ writeRoom w h v (now (levels .entry)) (now (words .entry)) (now (file .entry))) ⌝ }
+    ensures { λ r. ⌜ WriteCall w h v (now (levels .entry)) (now (words .entry)) (now (file .entry)) r (now (file .exit)) ⌝ }
 {
     write_file(w, h, v, levels, words, file)
 }
 
 #[no_mangle]
 pub extern "C" fn loafcanyon_read(file: &[u8], words: &mut [u32]) -> Stored
-    ensures { λ r. ⌜ (r ≡ readAnswer (now (file .entry)) (now (words .entry))) × (now (words .exit) ≡ readWords (now (file .entry)) (now (words .entry))) ⌝ }
+    ensures { λ r. ⌜ ReadCall (now (file .entry)) (now (words .entry)) r (now (words .exit)) ⌝ }
 {
     read_file(file, words)
 }

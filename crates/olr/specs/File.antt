@@ -1,6 +1,7 @@
 -- The outline file as it is written, and the writing call. Assumes nothing.
 -- Definitions: `limit` the most words; `letters`, `header` block 0's payload; `wordBytes` the bytes of words; `blocksFor` how many word blocks there are; `wordBlocks` they; `file` the whole;
---   `writeRows`, `writeVerdict`, `writeAnswer`, `writeRoom` the call.
+--   `writeRows`, `writeVerdict`, `writeAnswer`, `writeRoom`, `WriteCall` the call.
+use mathlib.Core.Path.{_≡_}
 use mathlib.Core.List.{List, [], _∷_, _++_}
 use Prim.Native.Nat.{ℕ, zero, suc, _+_, _*_, _/_}
 use lib.Dec.{ltb}
@@ -58,3 +59,7 @@ module _ (w h v : ℕ) (ks ws : List ℕ) where
 
     abbrev pub writeRoom : List ℕ
     writeRoom = afterwards writeVerdict room (file ++ drop fileLength room)
+
+-- what the writing call answers and leaves: its answer, and the room afterwards (01, Numbers for a refused call)
+abbrev pub WriteCall : ℕ → ℕ → ℕ → List ℕ → List ℕ → List ℕ → Answer → List ℕ → Type 0
+WriteCall w h v ks ws room r room′ = (r ≡ writeAnswer w h v ks ws room) × (room′ ≡ writeRoom w h v ks ws room)

@@ -1,6 +1,7 @@
 -- The outline file as it is read, and the reading call. Assumes nothing.
 -- Definitions: `blocks`, `payload`, `checkFits` the blocks of a file; `fileWidth`, `fileHeight`, `fileBorder`, `fileCount`, `fileWordCount`, `fileLevels`, `fileWords` what it says; `zeros` bytes due to be zero
---   are; `afterLevels`, `afterWords` which those are; `laidOut` it keeps the layout; `readRows`, `readVerdict`, `readAnswer`, `readWords` the call.
+--   are; `afterLevels`, `afterWords` which those are; `laidOut` it keeps the layout; `readRows`, `readVerdict`, `readAnswer`, `readWords`, `ReadCall` the call.
+use mathlib.Core.Path.{_≡_}
 use mathlib.Core.Bool.{Bool, not, _&&_, _||_, cond}
 use mathlib.Core.List.{List, [], _∷_, _++_}
 use Prim.Native.Nat.{ℕ, _+_, _-_, _*_, _/_, _%_}
@@ -105,3 +106,7 @@ module _ (f : List ℕ) where
 
     abbrev pub readWords : List ℕ
     readWords = afterwards readVerdict out (fileWords ++ drop fileWordCount out)
+
+-- what the reading call answers and leaves: its answer, and the word places afterwards (01, Numbers for a refused call)
+abbrev pub ReadCall : List ℕ → List ℕ → Stored → List ℕ → Type 0
+ReadCall f out r out′ = (r ≡ readAnswer f out) × (out′ ≡ readWords f out)

@@ -12,8 +12,8 @@ use put::write_verdict;
 use refuse::Answer;
 use refuse::answered;
 ghost use mathlib.Core.Path.{_≡_};
-ghost use Rattle.olr.specs.File.{writeAnswer, writeRoom};
-ghost use Rattle.olr.specs.Read.{readAnswer, readWords};
+ghost use Rattle.olr.specs.File.{WriteCall};
+ghost use Rattle.olr.specs.Read.{ReadCall};
 
 // What reading hands back beside the words: sides, border value, number of levels, and the levels with zeros after the last.
 #[repr(C)]
@@ -35,8 +35,7 @@ pub fn write_file(
     words: &[u32],
     file: &mut [u8],
 ) -> Answer
-    ensures { λ r. ⌜ (r ≡ writeAnswer w h v (now (levels .entry)) (now (words .entry)) (now (file .entry)))
-        × (now (file .exit) ≡ writeRoom w h v (now (levels .entry)) (now (words .entry)) (now (file .entry))) ⌝ }
+    ensures { λ r. ⌜ WriteCall w h v (now (levels .entry)) (now (words .entry)) (now (file .entry)) r (now (file .exit)) ⌝ }
 {
     let t = write_verdict(w, h, levels, words, &file[..]);
     if t.number != 0 {
@@ -49,8 +48,7 @@ pub fn write_file(
 
 // Reads a file: its words into the first places, and what else it says.
 pub fn read_file(file: &[u8], words: &mut [u32]) -> Stored
-    ensures { λ r. ⌜ (r ≡ readAnswer (now (file .entry)) (now (words .entry)))
-        × (now (words .exit) ≡ readWords (now (file .entry)) (now (words .entry))) ⌝ }
+    ensures { λ r. ⌜ ReadCall (now (file .entry)) (now (words .entry)) r (now (words .exit)) ⌝ }
 {
     let t = read_verdict(file, &words[..]);
     if t.number != 0 {

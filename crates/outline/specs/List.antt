@@ -1,6 +1,7 @@
 -- The whole list as words, and the list call. Assumes nothing.
 -- Definitions: `encode` a line as words, its first flagged; `levelWords` the lines of a level; `listed` all levels; `listRows`, `listVerdict`, `listAnswer`, `listWork`, `listWords` the call: its
---   refusals by their order, the one given, its answer, the work bytes and the word places afterwards.
+--   refusals by their order, the one given, its answer, the work bytes and the word places afterwards; `ListCall` all of it.
+use mathlib.Core.Path.{_≡_}
 use mathlib.Core.Bool.{Bool, true, false}
 use mathlib.Core.List.{List, [], _∷_, _++_}
 use Prim.Native.Nat.{ℕ, _+_}
@@ -51,3 +52,7 @@ module _ (L : Layout) where
       -- the list fills the first places, the rest are left (01, Numbers for a refused call)
       abbrev pub listWords : List ℕ
       listWords = afterwards listVerdict out (listed ks ++ drop (length (listed ks)) out)
+
+-- what the list call answers and leaves: its answer, the work bytes and the word places afterwards (01, Numbers for a refused call)
+abbrev pub ListCall : Layout → Picture → List ℕ → List ℕ → List ℕ → Answer → List ℕ → List ℕ → Type 0
+ListCall L P ks work out r work′ out′ = (r ≡ listAnswer L P ks work out) × (work′ ≡ listWork L P ks work out) × (out′ ≡ listWords L P ks work out)

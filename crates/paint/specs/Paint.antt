@@ -1,5 +1,6 @@
 -- Painting words back, and the stepped picture. Assumes nothing.
--- Definitions: `turns` a word turns a sample over at a level; `painted` a painted sample, `painting` all of them; `stepped` what a sample is stepped to; `paintRows`, `paintVerdict`, `paintAnswer`, `paintRoom` the call.
+-- Definitions: `turns` a word turns a sample over at a level; `painted` a painted sample, `painting` all of them; `stepped` what a sample is stepped to; `paintRows`, `paintVerdict`, `paintAnswer`, `paintRoom`, `PaintCall` the call.
+use mathlib.Core.Path.{_≡_}
 use mathlib.Core.Bool.{Bool, _&&_}
 use mathlib.Core.List.{List, [], _∷_, _++_}
 use Prim.Native.Nat.{ℕ, _*_, _/_, _%_}
@@ -46,3 +47,7 @@ module _ (L : Layout) (w h v : ℕ) (ks ws : List ℕ) where
 
     abbrev pub paintRoom : List ℕ
     paintRoom = afterwards paintVerdict room (painting ++ drop (w * h) room)
+
+-- what the painting call answers and leaves: its answer, and the room afterwards (01, Numbers for a refused call)
+abbrev pub PaintCall : Layout → ℕ → ℕ → ℕ → List ℕ → List ℕ → List ℕ → Answer → List ℕ → Type 0
+PaintCall L w h v ks ws room r room′ = (r ≡ paintAnswer L w h v ks ws room) × (room′ ≡ paintRoom L w h v ks ws room)

@@ -28,7 +28,7 @@ ghost use Rattle.refuse.specs.Shape.{Sides};
 ghost use Rattle.paint.specs.Part.{rest, part, wordsBefore, partStart, wordOn};
 ghost use Rattle.paint.specs.Span.{whole, inSpan};
 ghost use Rattle.paint.specs.Member.{inside, memberAnswer};
-ghost use Rattle.paint.specs.Paint.{paintAnswer, paintRoom};
+ghost use Rattle.paint.specs.Paint.{PaintCall};
 
 // The answer of membership.
 #[repr(C)]
@@ -196,7 +196,7 @@ pub fn paint_words(
     words: &[u32],
     room: &mut [u8],
 ) -> Answer
-    ensures { λ r. ⌜ (r ≡ paintAnswer eight w h v (now (levels .entry)) (now (words .entry)) (now (room .entry))) × (now (room .exit) ≡ paintRoom eight w h v (now (levels .entry)) (now (words .entry)) (now (room .entry))) ⌝ }
+    ensures { λ r. ⌜ PaintCall eight w h v (now (levels .entry)) (now (words .entry)) (now (room .entry)) r (now (room .exit)) ⌝ }
 {
     let p = paint_verdict(w, h, levels, words, room.len());
     if p.number != 0 {

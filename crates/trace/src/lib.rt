@@ -22,7 +22,7 @@ ghost use Prim.Native.Nat.{_≤_, _<_};
 ghost use lib.ListN.{length, drop, replicate};
 ghost use Rattle.matte.specs.Layout.{eight};
 ghost use Rattle.matte.specs.Picture.{picture};
-ghost use Rattle.outline.specs.List.{listed, listVerdict, listAnswer, listWork, listWords};
+ghost use Rattle.outline.specs.List.{listed, listVerdict, ListCall};
 ghost use Rattle.trace.specs.Search.{reach};
 
 // Sets the first n bytes to 0.
@@ -85,7 +85,7 @@ pub fn list_verdict(
 }
 
 // Lists a call that is not refused, with room for the bounds of any picture. Marks begin half a row into the work bytes, for speed.
-pub fn list_lines(
+fn list_lines(
     w: usize,
     h: usize,
     px: &[u8],
@@ -97,7 +97,7 @@ pub fn list_lines(
     four: bool,
 ) -> Answer
     requires { ⌜ (listVerdict eight (picture w h (now px)) (now levels) (now work) (now words) .number ≡ 0) × (reach four (length (now lo)) ≡ 4194304) × (reach four (length (now hi)) ≡ 4194304) ⌝ }
-    ensures { λ r. ⌜ (r ≡ listAnswer eight (picture w h (now (px .entry))) (now (levels .entry)) (now (work .entry)) (now (words .entry))) × (now (work .exit) ≡ listWork eight (picture w h (now (px .entry))) (now (levels .entry)) (now (work .entry)) (now (words .entry))) × (now (words .exit) ≡ listWords eight (picture w h (now (px .entry))) (now (levels .entry)) (now (work .entry)) (now (words .entry))) ⌝ }
+    ensures { λ r. ⌜ ListCall eight (picture w h (now (px .entry))) (now (levels .entry)) (now (work .entry)) (now (words .entry)) r (now (work .exit)) (now (words .exit)) ⌝ }
 {
     let n = area(w, h);
     clear(work, n);
@@ -124,6 +124,23 @@ pub fn list_lines(
     }
 }
 
+// The same on a quarter of the stack, and slower: bounds are on the stack, for 256 samples each.
+pub fn lean_lines(
+    w: usize,
+    h: usize,
+    px: &[u8],
+    levels: &[u8],
+    work: &mut [u8],
+    words: &mut [u32],
+) -> Answer
+    requires { ⌜ listVerdict eight (picture w h (now px)) (now levels) (now work) (now words) .number ≡ 0 ⌝ }
+    ensures { λ r. ⌜ ListCall eight (picture w h (now (px .entry))) (now (levels .entry)) (now (work .entry)) (now (words .entry)) r (now (work .exit)) (now (words .exit)) ⌝ }
+{
+    let mut lo = [0u8; 16384];
+    let mut hi = [0u8; 16384];
+    list_lines(w, h, px, levels, work, words, &mut lo, &mut hi, true)
+}
+
 // Lists every line of every level into the lent word places, or refuses and changes nothing. Where nothing is crossed, there is nothing to look for. Bounds are on the stack, for 64 samples each.
 pub fn list(
     w: usize,
@@ -133,7 +150,7 @@ pub fn list(
     work: &mut [u8],
     words: &mut [u32],
 ) -> Answer
-    ensures { λ r. ⌜ (r ≡ listAnswer eight (picture w h (now (px .entry))) (now (levels .entry)) (now (work .entry)) (now (words .entry))) × (now (work .exit) ≡ listWork eight (picture w h (now (px .entry))) (now (levels .entry)) (now (work .entry)) (now (words .entry))) × (now (words .exit) ≡ listWords eight (picture w h (now (px .entry))) (now (levels .entry)) (now (work .entry)) (now (words .entry))) ⌝ }
+    ensures { λ r. ⌜ ListCall eight (picture w h (now (px .entry))) (now (levels .entry)) (now (work .entry)) (now (words .entry)) r (now (work .exit)) (now (words .exit)) ⌝ }
 {
     let c = list_check(w, h, px, levels, work, words);
     let v = c.refusal;

@@ -11,7 +11,7 @@ use refuse::Answer;
 use refuse::Verdict;
 use refuse::answered;
 use refuse::row_verdict;
-use trace::list_lines;
+use trace::lean_lines;
 use trace::list_verdict;
 use walk::strip;
 use walk::walk;
@@ -21,7 +21,7 @@ ghost use lib.ListN.{length};
 ghost use Rattle.matte.specs.Layout.{eight};
 ghost use Rattle.matte.specs.Picture.{picture};
 ghost use Rattle.outline.specs.List.{listVerdict};
-ghost use Rattle.enclosure.specs.Call.{half, treeVerdict, treeAnswer, treeWork, treeWords, treeEntries};
+ghost use Rattle.enclosure.specs.Call.{half, treeVerdict, TreeCall};
 ghost use Rattle.tree.specs.Made.{TreeMade};
 
 // The first of the refusals 1 to 7 that applies, by the lengths of the lent memory.
@@ -57,15 +57,13 @@ fn make(
     requires { ⌜ (listVerdict eight (picture w h (now px)) (now levels) (now work) (now words) .number ≡ 0) × (half (picture w h (now px)) (now levels) ≤ length (now places)) ⌝ }
     ensures { λ r. ⌜ TreeMade (picture w h (now (px .entry))) (now (levels .entry)) (now (work .entry)) (now (words .entry)) (now (places .entry)) r (now (work .exit)) (now (words .exit)) (now (places .exit)) ⌝ }
 {
-    let mut lo = [0u8; 16384];
-    let mut hi = [0u8; 16384];
-    let a = list_lines(w, h, px, levels, work, words, &mut lo, &mut hi, true);
+    let a = lean_lines(w, h, px, levels, work, words);
     let n = a.lines;
     collect(words, a.words, places);
     note_all(px, w, h, levels, places, n, work, words);
     walk(px, w, h, levels, words, places);
     strip(places, n);
-    list_lines(w, h, px, levels, work, words, &mut lo, &mut hi, true)
+    lean_lines(w, h, px, levels, work, words)
 }
 
 // Lists every line of every level and gives each its entry in the tree, or refuses and changes nothing.
@@ -78,7 +76,7 @@ pub fn tree(
     words: &mut [u32],
     places: &mut [u32],
 ) -> Answer
-    ensures { λ r. ⌜ (r ≡ treeAnswer eight (picture w h (now (px .entry))) (now (levels .entry)) (now (work .entry)) (now (words .entry)) (now (places .entry))) × (now (work .exit) ≡ treeWork eight (picture w h (now (px .entry))) (now (levels .entry)) (now (work .entry)) (now (words .entry)) (now (places .entry))) × (now (words .exit) ≡ treeWords eight (picture w h (now (px .entry))) (now (levels .entry)) (now (work .entry)) (now (words .entry)) (now (places .entry))) × (now (places .exit) ≡ treeEntries eight (picture w h (now (px .entry))) (now (levels .entry)) (now (work .entry)) (now (words .entry)) (now (places .entry))) ⌝ }
+    ensures { λ r. ⌜ TreeCall eight (picture w h (now (px .entry))) (now (levels .entry)) (now (work .entry)) (now (words .entry)) (now (places .entry)) r (now (work .exit)) (now (words .exit)) (now (places .exit)) ⌝ }
 {
     let v = tree_verdict(w, h, px, levels, work, words, places);
     if v.number != 0 {

@@ -1,0 +1,133 @@
+//! Files that are not taken: status 1, one line that says where and what, nothing written.
+
+use crate::desk::Desk;
+use crate::expected::Expected;
+use crate::pictures::{noise, soft_matte, Picture};
+use crate::rng::Rng;
+
+pub fn all(desk: &mut Desk) {
+    std::fs::create_dir(desk.folder.join("folder")).expect("the folder can be written");
+    let mut rng = Rng::new(3, 1);
+    pictures(desk, &soft_matte(&mut rng, 12, 10));
+    border(desk, &mut rng);
+    outline_files(desk, &soft_matte(&mut rng, 40, 40));
+    desk.put("m.pgm", &soft_matte(&mut rng, 12, 10).pgm());
+    for (x, y) in [("12", "1"), ("1", "10"), ("99999999999", "0")] {
+        desk.refuses(&["pick", "m.pgm", x, y, "--levels", "1"], 1, &["no sample at", "12 by 10", "(refusal 11)"]);
+    }
+}
+
+/// Each command that takes a picture refuses the file bad.pgm so.
+fn refused(desk: &mut Desk, name: &str, parts: &[&str]) {
+    let commands: [&[&str]; 6] = [
+        &["list", "--levels", "9", "-o", "out"],
+        &["list", "--levels", "9", "--frame", "--text"],
+        &["tree", "--levels", "9"],
+        &["svg", "--levels", "9", "-o", "out"],
+        &["pick", "1", "1", "--levels", "9"],
+        &["frame", "-o", "out"],
+    ];
+    for command in commands {
+        let args = [&command[..1], &[name], &command[1..]].concat();
+        desk.refuses(&args, 1, &[&[name], parts].concat());
+    }
+}
+
+fn pictures(desk: &mut Desk, picture: &Picture) {
+    refused(desk, "missing.pgm", &["no such file"]);
+    refused(desk, "folder", &["folder"]);
+    refused(desk, "/dev/zero", &["does not begin with P5"]);
+    let whole = picture.pgm();
+    let with = |header: &str| [header.as_bytes(), &picture.px].concat();
+    let short =
+        [(0, "does not begin with P5"), (1, "does not begin with P5"), (2, "byte 2"), (4, "byte 4"), (12, "byte 12")];
+    for (length, part) in short {
+        desk.put("bad.pgm", &whole[..length]);
+        refused(desk, "bad.pgm", &[part]);
+    }
+    let cases: [(Vec<u8>, &[&str]); 14] = [
+        (whole[..whole.len() - 1].to_vec(), &["120 samples", "119", "(refusal 2)"]),
+        ([&whole[..], b"\n"].concat(), &["120 samples", "121", "(refusal 2)"]),
+        (with("P5\n9 10\n255\n"), &["90 samples", "120", "(refusal 2)"]),
+        (with("P5\n1 120\n255\n"), &["side", "(refusal 1)"]),
+        (with("P5\n0 0\n255\n"), &["side", "(refusal 1)"]),
+        (with("P5\n2049 2\n255\n"), &["side", "(refusal 1)"]),
+        (with("P5\n99999999999999999999 2\n255\n"), &["byte 3 is not the width"]),
+        (with("P6\n12 10\n255\n"), &["does not begin with P5"]),
+        (with("P2\n12 10\n255\n"), &["plain PGM (P2)"]),
+        (with("P5\n# a comment\n12 10\n255\n"), &["byte 3 begins a comment"]),
+        (with("P5\n12 10\n15\n"), &["greatest value is 15", "only 255"]),
+        (with("P5\n12 10\n65535\n"), &["greatest value is 65535", "only 255"]),
+        (with("P5\n-12 10\n255\n"), &["byte 3 is not the width"]),
+        (with("P512 10\n255\n"), &["byte 2 is not the width"]),
+    ];
+    for (bytes, parts) in cases {
+        desk.put("bad.pgm", &bytes);
+        refused(desk, "bad.pgm", parts);
+    }
+    let mut endless = b"P5\n12 10\n255\n".to_vec();
+    endless.resize(6_000_000, 0);
+    let seen = desk.run_on(&["list", "-", "--levels", "9"], &endless);
+    desk.holds("too long an input", seen.told(1, &["standard input", "120 samples", "or more", "(refusal 2)"]));
+}
+
+/// A border that is not of one value is told with its first sample that differs.
+fn border(desk: &mut Desk, rng: &mut Rng) {
+    for (x, y) in [(7, 0), (11, 0), (0, 4), (11, 5), (0, 9), (6, 9), (11, 9)] {
+        let mut picture = noise(rng, 12, 10);
+        for i in (0..120).filter(|i| i / 12 == 0 || i / 12 == 9 || i % 12 == 0 || i % 12 == 11) {
+            picture.px[i] = if i < y * 12 + x { 70 } else { 71 };
+        }
+        desk.put("bad.pgm", &picture.pgm());
+        let place = format!("x {x}, y {y} is 71 where x 0, y 0 is 70");
+        for command in [&["list", "bad.pgm", "-o", "out"][..], &["tree", "bad.pgm"], &["pick", "bad.pgm", "1", "1"]] {
+            desk.refuses(&[command, &["--levels", "9"]].concat(), 1, &["bad.pgm", &place, "--frame", "(refusal 4)"]);
+        }
+        desk.refuses(&["svg", "bad.pgm", "--levels", "9", "-o", "out"], 1, &[&place, "(refusal 4)"]);
+    }
+}
+
+/// Each command that takes an outline file refuses it so.
+fn refused_file(desk: &mut Desk, name: &str, parts: &[&str]) {
+    let parts = [&[name], parts].concat();
+    desk.refuses(&["check", name], 1, &parts);
+    desk.refuses(&["info", name], 1, &parts);
+    desk.refuses(&["paint", name, "-o", "out"], 1, &parts);
+}
+
+fn outline_files(desk: &mut Desk, picture: &Picture) {
+    refused_file(desk, "missing.olr", &["no such file"]);
+    refused_file(desk, "folder", &["folder"]);
+    refused_file(desk, "/dev/zero", &["no outline file has more than"]);
+    let file = Expected::of(picture, &[60, 120, 180]).file();
+    let blocks = file.len() / 512;
+    for (length, parts) in [
+        (0, ["empty", "(refusal 12)"]),
+        (file.len() - 1, ["512 bytes", "(refusal 12)"]),
+        (100, ["512 bytes", "(refusal 12)"]),
+        (file.len() - 512, ["outline file", "(refusal 14)"]),
+    ] {
+        desk.put("bad.olr", &file[..length]);
+        refused_file(desk, "bad.olr", &parts);
+    }
+    desk.put("bad.olr", &[&file[..], &file[..512]].concat());
+    refused_file(desk, "bad.olr", &[&format!("block {blocks} is damaged"), "(refusal 13)"]);
+    desk.put("bad.olr", &picture.pgm());
+    refused_file(desk, "bad.olr", &["(refusal 12)"]);
+    for place in [0, 5, 511, 512, 1023, 1500, file.len() - 1] {
+        let mut damaged = file.clone();
+        damaged[place] ^= 16;
+        desk.put("bad.olr", &damaged);
+        let (block, from) = (place / 512, place / 512 * 512);
+        let said = format!("block {block} is damaged, bytes {from} to {}", from + 511);
+        refused_file(desk, "bad.olr", &[&said, "(refusal 13)"]);
+    }
+    desk.put("good.olr", &file);
+    let seen = desk.run(&["check", "good.olr", "bad.olr", "missing.olr", "good.olr"]);
+    let last = format!("block {} is damaged", blocks - 1);
+    let told = seen.err.lines().collect::<Vec<_>>();
+    let lines =
+        matches!(told[..], [a, b, c] if a.contains(&last) && b.contains("no such file") && c.contains("2 of 4"));
+    desk.holds("check of four files", seen.status == Some(1) && lines);
+    desk.holds("check of four files, the fine ones", seen.text() == "good.olr: fine\ngood.olr: fine\n");
+}

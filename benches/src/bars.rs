@@ -1,5 +1,6 @@
 //! The bars that the library is held to.
 
+use crate::errand::Errand;
 use crate::measure::{Figures, FileFigures, Framing};
 
 /// A limit, and what was seen.
@@ -31,6 +32,9 @@ const BESIDES: f64 = 5.0;
 
 /// What framing may take of a plain copy's time.
 const FRAME: f64 = 1.1;
+
+/// What the command may take of the time of its calls and of plain reading and writing.
+const COMMAND: f64 = 1.5;
 
 /// The comparison's time against the yardstick's, a C++ listing that is not part of this repository: the least of 25
 /// repeats of both in one run. The bars are set against the yardstick, and only the comparison is here.
@@ -93,7 +97,14 @@ impl Framing {
     }
 }
 
-/// Every bar, with what was seen.
+impl Errand {
+    pub fn bar(&self) -> Bar {
+        let what = format!("command/calls, {}, {} levels", self.picture, self.levels);
+        Bar { what, limit: COMMAND, seen: self.ratio(), at_most: true }
+    }
+}
+
+/// Every bar of the calls, with what was seen.
 pub fn all(seen: &[Figures], framed: &Framing) -> Vec<Bar> {
     let (flat, crossed): (Vec<&Figures>, Vec<&Figures>) = seen.iter().partition(|f| f.passes.is_some());
     let mut bars: Vec<Bar> = crossed.iter().map(|f| f.list_bar()).collect();

@@ -54,8 +54,15 @@ impl<'a> Desk<'a> {
         self.words.len()
     }
 
-    pub fn file_bytes(&self) -> usize {
-        self.file.len()
+    pub fn file(&self) -> &[u8] {
+        &self.file
+    }
+
+    /// Lends new memory for work, words and file, as a program has it that runs once.
+    pub fn renew(&mut self) {
+        self.work = vec![0; self.work.len()];
+        self.words = vec![0; self.words.len()];
+        self.file = vec![0; self.file.len()];
     }
 
     fn list(&mut self) -> Answer {

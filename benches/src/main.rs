@@ -3,6 +3,7 @@
 mod bars;
 mod comparison;
 mod desk;
+mod errand;
 #[allow(dead_code)]
 #[path = "../../crates/host/loafcanyon.rs"]
 mod library;
@@ -32,13 +33,15 @@ fn main() -> ExitCode {
         }
     };
     let terrain = pictures::terrain();
-    let mut seen = measure::whole(&pictures::matte(), &[1, 8, 32, 255], pace);
+    let matte = pictures::matte();
+    let mut seen = measure::whole(&matte, &[1, 8, 32, 255], pace);
     seen.extend(measure::whole(&terrain, &[1, 8, 32, 255], pace));
     // All levels of noise are 179 million words, more than is worth the memory.
     seen.extend(measure::whole(&pictures::noise(), &[1, 8, 32], pace));
     seen.extend(measure::whole(&pictures::flat(), &[1, 8, 32, 255], pace));
     let framed = measure::framing(&terrain, pace);
     let grown = measure::growth(&terrain, &[256, 512, 1024, 2048], 8, pace);
+    let errand = errand::errand(&matte, 8, pace);
     report::lists(&seen);
     report::paints(&seen);
     report::files(&seen);
@@ -46,7 +49,9 @@ fn main() -> ExitCode {
     report::flat(&seen);
     report::framing(&framed);
     report::growth(&grown);
-    let bars = bars::all(&seen, &framed);
+    report::errand(&errand);
+    let mut bars = bars::all(&seen, &framed);
+    bars.push(errand.bar());
     report::bars(&bars);
     ExitCode::from(!bars.iter().all(bars::Bar::met) as u8)
 }

@@ -139,7 +139,7 @@ fn file(desk: &mut Desk, pace: Pace) -> Option<FileFigures> {
     }
     let calls = [Call::Write, Call::Read, Call::Check, Call::PlainCheck];
     let [write, read, check, plain] = pace.least(calls, |call| desk.run(call));
-    Some(FileFigures { bytes: desk.file_bytes(), write, read, check, plain })
+    Some(FileFigures { bytes: desk.file().len(), write, read, check, plain })
 }
 
 /// A call in turns with listing; only once where that takes long.

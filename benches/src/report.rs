@@ -1,6 +1,7 @@
 //! The tables.
 
 use crate::bars::Bar;
+use crate::errand::Errand;
 use crate::measure::{Figures, FileFigures, Framing};
 
 /// One row for each picture and number of levels.
@@ -85,6 +86,22 @@ pub fn growth(seen: &[Figures]) {
         let tree = f.tree.as_ref().map_or("-".into(), |tree| format!("{:.2}", sample(tree.time)));
         println!("{:<8} {:>8.2} {:>8.2} {tree:>8}", f.side, sample(f.list), sample(f.paint.time));
     }
+}
+
+impl Errand {
+    /// The command's time against that of its calls and of plain reading and writing.
+    pub fn ratio(&self) -> f64 {
+        self.command / self.calls
+    }
+}
+
+pub fn errand(seen: &Errand) {
+    println!(
+        "\nThe command list -o; calls: the list call, the write call, plain reading and writing of the same bytes"
+    );
+    println!("{:<8} {:>6} {:>9} {:>9} {:>14}", "picture", "levels", "ms", "calls", "command/calls");
+    let [command, calls] = [seen.command, seen.calls].map(|time| time * 1e3);
+    println!("{:<8} {:>6} {command:>9.2} {calls:>9.2} {:>14.2}", seen.picture, seen.levels, seen.ratio());
 }
 
 pub fn bars(bars: &[Bar]) {

@@ -77,6 +77,8 @@ fn plain(error: &io::Error) -> String {
         ErrorKind::IsADirectory => "it is a folder: name a file",
         ErrorKind::NotADirectory => "a part of its path is a file: look at the name",
         ErrorKind::StorageFull => "the disk is full: make room and run it again",
+        ErrorKind::QuotaExceeded => "you may store no more there: make room and run it again",
+        ErrorKind::FileTooLarge => "no file may be so large there: choose another place, or fewer levels",
         ErrorKind::ReadOnlyFilesystem => "the disk may not be written: choose another place",
         ErrorKind::BrokenPipe => "nobody reads it any more: let the reader go on to the end",
         ErrorKind::OutOfMemory => "there is not enough memory: close other programs",

@@ -1,16 +1,21 @@
 //! The outlines of a matte: the list call and the tree call, with the memory that they ask for.
 
 use crate::error::Error;
-use crate::library;
+use crate::library::{self, Answer, CrossingAnswer};
 use crate::matte::Matte;
 use crate::room::room;
 use crate::{levels, words};
+
+/// One word for so many samples is lent at first. Most mattes at a few levels have fewer; the call says what others need.
+const GUESS: usize = 4;
 
 pub struct Outlines<'a> {
     pub matte: &'a Matte,
     pub levels: &'a [u8],
     pub words: Vec<u32>,
     pub lines: usize,
+    /// The work bytes, free for other use once it is listed.
+    work: Vec<u8>,
 }
 
 /// The list, with the tree entry of each line.
@@ -20,32 +25,47 @@ pub struct Tree<'a> {
 }
 
 impl<'a> Outlines<'a> {
+    pub fn of(matte: &'a Matte, levels: &'a [u8]) -> Result<Outlines<'a>, Error> {
+        Outlines::by(matte, levels, |work, words| {
+            Ok(library::list(matte.w, matte.h, matte.samples(), levels, work, words))
+        })
+    }
+
+    /// By a call that lists, which is made again where it asks for more words.
+    fn by(
+        matte: &'a Matte, levels: &'a [u8], mut call: impl FnMut(&mut [u8], &mut [u32]) -> Result<Answer, Error>,
+    ) -> Result<Outlines<'a>, Error> {
+        let mut work = room(matte.samples().len())?;
+        let mut words = room(work.len() / GUESS)?;
+        let mut answer = call(&mut work, &mut words)?;
+        if answer.number == 6 {
+            words = room(answer.place)?;
+            answer = call(&mut work, &mut words)?;
+        }
+        matte.allow(&answer)?;
+        words.truncate(answer.words);
+        Ok(Outlines { matte, levels, words, lines: answer.lines, work })
+    }
+
     /// The border value: every border sample has it, or the matte was refused.
     pub fn border(&self) -> u8 {
         self.matte.samples()[0]
     }
 
-    pub fn of(matte: &'a Matte, levels: &'a [u8]) -> Result<Outlines<'a>, Error> {
-        let (w, h, px) = (matte.w, matte.h, matte.samples());
-        let mut work: Vec<u8> = room(px.len())?;
-        let asked = library::list(w, h, px, levels, &mut work, &mut []);
-        let mut words = room(needed(matte, &asked)?)?;
-        let answer = library::list(w, h, px, levels, &mut work, &mut words);
+    /// The outline file, which takes the work bytes' place.
+    pub fn file(&mut self) -> Result<&[u8], Error> {
+        let (matte, border) = (self.matte, self.border());
+        let bytes = words::file_bytes(self.words.len());
+        if self.work.len() < bytes {
+            self.work = room(bytes)?;
+        }
+        let file = &mut self.work[..bytes];
+        let answer = library::write(matte.w, matte.h, border, self.levels, &self.words, file);
+        if answer.number == 16 {
+            return Err(Error::numbered(&matte.name, self.too_many(), 16));
+        }
         matte.allow(&answer)?;
-        Ok(Outlines { matte, levels, words, lines: answer.lines })
-    }
-
-    /// The outline file.
-    pub fn file(&self) -> Result<Vec<u8>, Error> {
-        let (w, h, border) = (self.matte.w, self.matte.h, self.border());
-        let asked = library::write(w, h, border, self.levels, &self.words, &mut []);
-        let mut file = match asked.number {
-            15 => room(asked.place)?,
-            16 => return Err(Error::numbered(&self.matte.name, self.too_many(), 16)),
-            _ => return Err(Error::by_call(&self.matte.name, &asked)),
-        };
-        self.matte.allow(&library::write(w, h, border, self.levels, &self.words, &mut file))?;
-        Ok(file)
+        Ok(&self.work[..bytes])
     }
 
     /// Why it fits no file.
@@ -53,11 +73,12 @@ impl<'a> Outlines<'a> {
         let there = self.words.len();
         let halves = self.levels.split_at(self.levels.len() / 2);
         let (low, high) = (levels::shown(halves.0), levels::shown(halves.1));
-        format!("a file holds up to 16,777,215 words, and these are {there}: store it in parts, as --levels {low} and {high}")
+        let parts = format!("store it in parts, as --levels {low} and {high}");
+        format!("a file holds up to 16,777,215 words, and these are {there}: {parts}")
     }
 
     /// Where a word of the list crosses.
-    pub fn crossing(&self, word: u32) -> Result<library::CrossingAnswer, Error> {
+    pub fn crossing(&self, word: u32) -> Result<CrossingAnswer, Error> {
         let (w, h, px) = (self.matte.w, self.matte.h, self.matte.samples());
         let crossing = library::crossing(w, h, px, words::level(word), words::code(word));
         self.matte.allow(&crossing.answer)?;
@@ -67,23 +88,13 @@ impl<'a> Outlines<'a> {
 
 impl<'a> Tree<'a> {
     pub fn of(matte: &'a Matte, levels: &'a [u8]) -> Result<Tree<'a>, Error> {
-        let (w, h, px) = (matte.w, matte.h, matte.samples());
-        let mut work: Vec<u8> = room(px.len())?;
-        let asked = library::tree(w, h, px, levels, &mut work, &mut [], &mut []);
-        let mut words = room(needed(matte, &asked)?)?;
-        // Half as many places as words are always enough.
-        let mut entries = room(words.len() / 2)?;
-        let answer = library::tree(w, h, px, levels, &mut work, &mut words, &mut entries);
-        matte.allow(&answer)?;
-        entries.truncate(answer.lines);
-        Ok(Tree { list: Outlines { matte, levels, words, lines: answer.lines }, entries })
-    }
-}
-
-/// How many words a call without room asked for; none where it was done at once.
-fn needed(matte: &Matte, asked: &library::Answer) -> Result<usize, Error> {
-    match asked.number {
-        6 => Ok(asked.place),
-        _ => matte.allow(asked).map(|()| 0),
+        let mut entries = Vec::new();
+        let list = Outlines::by(matte, levels, |work, words| {
+            // Half as many places as words are always enough.
+            entries = room(words.len() / 2)?;
+            Ok(library::tree(matte.w, matte.h, matte.samples(), levels, work, words, &mut entries))
+        })?;
+        entries.truncate(list.lines);
+        Ok(Tree { list, entries })
     }
 }

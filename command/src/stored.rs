@@ -6,9 +6,10 @@ use crate::error::Error;
 use crate::input;
 use crate::library;
 use crate::room::room;
+use crate::words;
 
-/// The longest outline file: block 0, and 16,777,215 words, 127 to a block.
-const LONGEST: usize = 512 * (1 + 16_777_215_usize.div_ceil(127));
+/// The bytes of the longest outline file.
+const LONGEST: usize = words::file_bytes(16_777_215);
 
 pub struct Stored {
     pub name: String,

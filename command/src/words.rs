@@ -1,4 +1,4 @@
-//! Words, codes and tree entries taken apart, as the functions of the header for C do it.
+//! Words, codes and tree entries taken apart, and the size of a file, as the functions of the header for C have them.
 
 pub fn code(word: u32) -> u32 {
     word & 0x7f_ffff
@@ -31,7 +31,19 @@ pub fn around(entry: u32) -> u32 {
     entry & 0x7fff_ffff
 }
 
+/// How many bytes the outline file of so many words has.
+pub const fn file_bytes(words: usize) -> usize {
+    512 * (1 + words.div_ceil(127))
+}
+
 /// The lines of a listed list, one after the other. The call for line n would look through all words again for each.
 pub fn lines(words: &[u32]) -> impl Iterator<Item = &[u32]> {
-    words.chunk_by(|_, &next| !first(next))
+    let mut rest = words;
+    std::iter::from_fn(move || {
+        let (_, after) = rest.split_first()?;
+        let count = 1 + after.iter().position(|&word| first(word)).unwrap_or(after.len());
+        let (line, others) = rest.split_at(count);
+        rest = others;
+        Some(line)
+    })
 }

@@ -23,24 +23,24 @@ const HEADINGS: [char; 4] = ['S', 'E', 'N', 'W'];
 fn run(args: &Args) -> Result<(), Error> {
     let (levels, matte) = (args.levels()?, args.matte()?);
     if args.has("--text") {
-        let tree = Tree::of(&matte, &levels)?;
-        let stored = store(args, &tree.list);
+        let mut tree = Tree::of(&matte, &levels)?;
+        let stored = store(args, &mut tree.list);
         output::print(|out| text(out, &tree))?;
         stored
     } else {
-        let list = Outlines::of(&matte, &levels)?;
-        let stored = store(args, &list);
+        let mut list = Outlines::of(&matte, &levels)?;
+        let stored = store(args, &mut list);
         output::print(|out| summary(out, &list))?;
         stored
     }
 }
 
 /// Writes the outline file, if one is asked for. What hinders it is said after the outlines.
-fn store(args: &Args, list: &Outlines) -> Result<(), Error> {
+fn store(args: &Args, list: &mut Outlines) -> Result<(), Error> {
     match args.output() {
         Some(path) => {
             let file = list.file()?;
-            output::save(path, |out| out.bytes(&file))
+            output::save(path, |out| out.bytes(file))
         }
         None => Ok(()),
     }

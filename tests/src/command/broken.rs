@@ -14,6 +14,7 @@ pub fn all(desk: &mut Desk) {
     desk.put("m.pgm", &picture.pgm());
     desk.put("m.olr", &Expected::of(&picture, &[99]).file());
     full_disk(desk);
+    cut_short(desk);
     closed_pipe(desk);
     no_place(desk);
     no_rights(desk);
@@ -53,6 +54,19 @@ fn full_disk(desk: &mut Desk) {
     }
     let device = std::fs::metadata("/dev/full").is_ok_and(|full| !full.is_file());
     desk.holds("the device is still one", device);
+}
+
+/// Writing ends within the file, as on a disk that gets full: what was there before stays, and nothing else.
+fn cut_short(desk: &mut Desk) {
+    for args in WRITES {
+        desk.put("kept", b"old");
+        let mut shell = Command::new("sh");
+        shell.current_dir(&desk.folder).arg("-c").arg("trap '' XFSZ; ulimit -f 1; exec \"$0\" \"$@\"");
+        let seen = ran(shell.arg(&desk.program).args(args).arg("kept"));
+        let kept = desk.got("kept") == b"old" && !desk.left_over();
+        desk.holds(&format!("{args:?} cut short: {seen:?}"), kept && seen.told(1, &["kept", "so large"]));
+    }
+    desk.remove("kept");
 }
 
 /// The reader is gone before anything is written.

@@ -58,7 +58,7 @@ impl<'a> Desk<'a> {
         &self.file
     }
 
-    /// Lends new memory for work, words and file, as a program has it that runs once.
+    /// New memory for work, words and file.
     pub fn renew(&mut self) {
         self.work = vec![0; self.work.len()];
         self.words = vec![0; self.words.len()];

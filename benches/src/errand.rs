@@ -23,6 +23,13 @@ enum Way {
     Calls,
 }
 
+/// The name of malloc's limit from which on memory comes from the system, and goes back there when it is freed.
+const FROM_SYSTEM: i32 = -3;
+
+extern "C" {
+    fn mallopt(name: i32, value: i32) -> i32;
+}
+
 /// A folder of its own, with the matte in it; it goes when this goes.
 struct Folder(PathBuf);
 
@@ -44,6 +51,9 @@ pub fn errand(picture: &Picture, count: usize, pace: Pace) -> Errand {
     let program = env::current_exe().expect("this program is a file").with_file_name("loafcanyon");
     let mut command = Command::new(program);
     command.arg("list").arg(&matte).args(["--levels", &names.join(","), "-o"]).arg(&by_command).stdout(Stdio::null());
+    // A program that runs once has its memory new from the system, so the calls are lent such memory too.
+    // SAFETY: it sets a number.
+    assert_eq!(unsafe { mallopt(FROM_SYSTEM, 1 << 17) }, 1, "malloc takes the limit");
     let mut desk = Desk::new(picture, levels(count));
     desk.check_list();
     assert!(desk.check_file(), "the list fits a file");

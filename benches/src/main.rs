@@ -41,6 +41,7 @@ fn main() -> ExitCode {
     seen.extend(measure::whole(&pictures::flat(), &[1, 8, 32, 255], pace));
     let framed = measure::framing(&terrain, pace);
     let grown = measure::growth(&terrain, &[256, 512, 1024, 2048], 8, pace);
+    // The last, since it changes how memory is had.
     let errand = errand::errand(&matte, 8, pace);
     report::lists(&seen);
     report::paints(&seen);

@@ -21,18 +21,23 @@ pub const COMMAND: Command = Command {
 const HEADINGS: [char; 4] = ['S', 'E', 'N', 'W'];
 
 fn run(args: &Args) -> Result<(), Error> {
+    let (text_too, printed) = (args.has("--text"), args.output().is_some_and(|path| path == "-"));
+    if text_too && printed {
+        return Err(args.wrong("standard output takes the file or the text, and not both".into()));
+    }
     let (levels, matte) = (args.levels()?, args.matte()?);
-    if args.has("--text") {
+    if text_too {
         let mut tree = Tree::of(&matte, &levels)?;
         let stored = store(args, &mut tree.list);
         output::print(|out| text(out, &tree))?;
-        stored
-    } else {
-        let mut list = Outlines::of(&matte, &levels)?;
-        let stored = store(args, &mut list);
-        output::print(|out| summary(out, &list))?;
-        stored
+        return stored;
     }
+    let mut list = Outlines::of(&matte, &levels)?;
+    let stored = store(args, &mut list);
+    if !printed {
+        output::print(|out| summary(out, &list))?;
+    }
+    stored
 }
 
 /// Writes the outline file, if one is asked for. What hinders it is said after the outlines.

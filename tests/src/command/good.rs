@@ -146,6 +146,8 @@ fn standard_streams(desk: &mut Desk, picture: &Picture) {
     let seen = desk.run_on(&["list", "-", "--levels=64,128", "-o", "in.olr"], &picture.pgm());
     desk.same("list of standard input", &seen.out, due.summary("64,128").as_bytes());
     desk.same("its file", &desk.got("in.olr"), &due.file());
+    let seen = desk.run_on(&["list", "-", "--levels", "64,128", "-o", "-"], &picture.pgm());
+    desk.same("list to standard output", &seen.out, &due.file());
     let seen = desk.run_on(&["paint", "-", "-o", "-"], &due.file());
     desk.same("paint from input to output", &seen.out, &due.painted().pgm());
     let seen = desk.run_on(&["check", "-"], &due.file());

@@ -45,6 +45,7 @@ fn options(desk: &mut Desk) {
     desk.refuses(&["list", "m.pgm", "--levels"], 2, &["missing after --levels"]);
     desk.refuses(&["list", "m.pgm", "--levels", "1", "-o"], 2, &["missing after -o"]);
     desk.refuses(&["list", "m.pgm", "--levels", "1", "--levels", "2"], 2, &["--levels is there twice"]);
+    desk.refuses(&["list", "m.pgm", "--levels", "1", "--text", "-o", "-"], 2, &["not both"]);
     desk.refuses(&["list", "m.pgm", "--text=1", "--levels", "2"], 2, &["--text takes no value"]);
 }
 

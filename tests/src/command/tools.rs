@@ -1,5 +1,5 @@
-//! What other programs make of the command's files: Netpbm of the pictures, a renderer of the drawings. Where one is missing, that is
-//! said.
+//! What other programs make of the command's files: Netpbm of the pictures, a renderer of the drawings. Where one is missing,
+//! that is said.
 
 use std::process::{Command, Stdio};
 

@@ -1,5 +1,5 @@
 -- All lines of a word list. Assumes nothing.
--- Main laws: `part-empty` a line past the last is empty; `part-some` any other is not; `part-exact` the two together; `part-nowhere` a line past the last starts at 0; `parts-all` the lines one after the other are the list from its first flag on.
+-- Main laws: `part-empty` a line past the last is empty; `part-some` any other is not; `part-exact` the two together; `part-nowhere` a line past the last starts at 0; `part-there` as many words as it has, from its start on, are the line; `parts-all` the lines one after the other are the list from its first flag on.
 use mathlib.Core.Path.{_≡_, refl, sym, ap, _∙_}
 use mathlib.Core.Bool.{true, false}
 use mathlib.Core.List.{List, [], _∷_, _++_}
@@ -8,7 +8,7 @@ use native.Mathlib.Nat.{zero-add}
 use native.Mathlib.Numerals.{one-add}
 use native.Mathlib.Omega.{arith}
 use lib.Dec.{ltb}
-use lib.ListN.{length, take, drop, take-append-drop}
+use lib.ListN.{length, take, drop, take-append-drop, length-drop}
 use borrow.Author.Tests.{lt-ltb, ltb-true, ltb-false}
 use Rattle.tally.specs.Tally.{tally, firstAt, flat, pick}
 use Rattle.tally.proofs.Test.{by-test}
@@ -16,7 +16,8 @@ use Rattle.tally.proofs.First.{first-yes, first-no}
 use Rattle.matte.specs.Layout.{Layout}
 use Rattle.edgel.specs.Word.{flagged}
 use Rattle.paint.specs.Part.{rest, part, wordsBefore, partStart}
-use Rattle.paint.proofs.Lines.{rest-yes, rest-no, part-yes, part-next, part-no, before-next, before-no, start-none}
+use Rattle.paint.specs.Span.{whole}
+use Rattle.paint.proofs.Lines.{rest-yes, rest-no, part-yes, part-next, part-no, before-next, before-no, part-before, start-here, start-none}
 
 -- g i, .., g (i + m - 1)
 abbrev row : (ℕ → List ℕ) → ℕ → ℕ → List (List ℕ)
@@ -85,6 +86,34 @@ module _ (L : Layout) where
   -- a line that is not there starts at 0
   pub part-nowhere : (n : ℕ) (ws : List ℕ) → tally (flagged L) ws ≤ n → partStart L n ws ≡ 0
   part-nowhere n ws h = start-none L n ws (omega (arith, before-all n ws h))
+
+  -- ---- start and count give the line
+  rest-front : (l : List ℕ) → take (length (rest L l)) l ≡ rest L l
+  unfolding rest
+  rest-front [] = refl
+  rest-front (u ∷ l) =
+      by-test (flagged L u)
+      (λ e. rw (rest-yes L u l e) refl)
+      (λ e. rw (rest-no L u l e) (ap (λ (x : List ℕ). u ∷ x) (rest-front l)))
+
+  whole-front : (l : List ℕ) → take (length (whole L l)) l ≡ whole L l
+  unfolding whole
+  whole-front [] = refl
+  whole-front (u ∷ l) = ap (λ (x : List ℕ). u ∷ x) (rest-front l)
+
+  no-words : (l : List ℕ) → length l ≡ 0 → whole L l ≡ []
+  unfolding whole
+  no-words [] e = refl
+  no-words (u ∷ l) e = absurd (omega arith)
+
+  pub part-there : (n : ℕ) (ws : List ℕ) → take (length (part L n ws)) (drop (partStart L n ws) ws) ≡ part L n ws
+  part-there n ws =
+      by-test (ltb (wordsBefore L n ws) (length ws))
+      (λ e. rw (start-here L n ws (ltb-true _ _ e), part-before L n ws) (whole-front (drop (wordsBefore L n ws) ws)))
+      (λ e.
+      let h : length ws ≤ wordsBefore L n ws = ltb-false (wordsBefore L n ws) (length ws) e in
+      let z : part L n ws ≡ [] = part-before L n ws ∙ no-words (drop (wordsBefore L n ws) ws) (length-drop (wordsBefore L n ws) ws ∙ omega arith) in
+      rw z refl)
 
   -- a line is empty exactly if there is no such line
   pub part-exact : (n : ℕ) (ws : List ℕ) → ltb 0 (length (part L n ws)) ≡ ltb n (tally (flagged L) ws)

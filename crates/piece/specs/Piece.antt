@@ -45,7 +45,7 @@ pub record Case : Type 0 where
   pub number : ℕ
   pub values : List Float
 
--- 0 refused, 1 straight, 2 corner with the centre, 3 branch with the centre and δ (01, The piece in one cell)
+-- 0 refused, 1 straight, 2 corner with the centre, 3 branch with the centre and δ (01, Forms by place in the code)
 abbrev pub caseOf : Piece → Case
 caseOf Refused = record { number = 0; values = [] }
 caseOf Straight = record { number = 1; values = [] }

@@ -29,6 +29,7 @@ use Rattle.crossing.proofs as Crossing
 use Rattle.piece.proofs as Piece
 use Rattle.paint.proofs as Paint
 use Rattle.olr.proofs as Olr
+use Rattle.form.proofs as Form
 use Rattle.host.proofs as Host
 use Rattle.promises.proofs.RefusedExactly.{refuses}
 use Rattle.promises.proofs.DemandOne.{list-kept, tree-kept, frame-kept, paint-kept, write-kept, read-kept}
@@ -117,8 +118,14 @@ piece-reads κs a z ws p = refl
 pub part-reads : OnlyReads Paint.line_part.ended Paint.line_part.Reads.Learnt (λ κs e. e)
 part-reads κs a z ws p = refl
 
+pub start-reads : OnlyReads Paint.start_of.ended Paint.start_of.Reads.Learnt (λ κs e. e)
+start-reads κs a z ws p = refl
+
 pub member-reads : OnlyReads Paint.member.ended Paint.member.Reads.Learnt (λ κs e. e)
 member-reads κs a z ws p = refl
+
+pub form-reads : OnlyReads Form.read_form.ended Form.read_form.Reads.Learnt (λ κs e. e)
+form-reads κs a z ws p = refl
 
 pub c-crossing-reads : OnlyReads Host.loafcanyon_crossing.ended Host.loafcanyon_crossing.Reads.Learnt (λ κs e. e)
 c-crossing-reads κs a z ws p = refl

@@ -10,7 +10,7 @@ use Rattle.refuse.specs.declared.Verdict.{Verdict}
 use Rattle.refuse.specs.Refusal.{rowAt, verdict}
 use Rattle.refuse.proofs.Rows.{stopped, gone-on, clean-fit}
 use Rattle.words.specs.Fit.{badWord}
-use Rattle.olr.specs.Read.{fileWidth, fileHeight, fileLevels, fileWords, fileWordCount, laidOut}
+use Rattle.olr.specs.Read.{blocks, fileWidth, fileHeight, fileLevels, fileWords, fileWordCount, laidOut}
 use Rattle.olr.proofs.Laid.{laid, laid-holds, laid-sides}
 use Rattle.olr.proofs.Taken.{words-length}
 use Rattle.olr.proofs.Read.{badAt, r12, r13, r14, r8, r6, whole-blocks}
@@ -51,7 +51,7 @@ returns-2 : tie.Need-returns-2
 returns-2 c =
     let f = c .before .before .before .before .before .before .before .before .before .before .args .file .now in
     let o = c .before .before .before .before .before .before .before .before .before .before .args .words .now in
-    gone-on (r12 f o ∷ []) (r13 f o ∷ r14 f o ∷ r8 f o ∷ r6 f o ∷ []) _ _ refl (c .before .before .before .before .before .before .before .row-verdict .ensures) (c .before .before .before .before .before .if1 .left) (stopped (r13 f o ∷ []) (r14 f o ∷ r8 f o ∷ r6 f o ∷ []) _ (rw (c .before .before .before .before .first-bad-block .ensures) at (c .before .before .row-verdict2 .ensures)) (c .if2 .taken))
+    gone-on (r12 f o ∷ []) (r13 f o ∷ r14 f o ∷ r8 f o ∷ r6 f o ∷ []) _ _ refl (c .before .before .before .before .before .before .before .row-verdict .ensures) (c .before .before .before .before .before .if1 .left) (stopped (r13 f o ∷ []) (r14 f o ∷ r8 f o ∷ r6 f o ∷ []) _ (c .before .before .row-verdict2 .ensures ∙ ap (λ (n : ℕ). verdict (rowAt 13 (ltb n (blocks f)) n ∷ [])) (c .before .before .before .before .first-bad-block .ensures)) (c .if2 .taken))
 
 row-verdict-requires-3 : tie.Need-row-verdict-requires-3
 row-verdict-requires-3 c κs = search needs
@@ -61,7 +61,7 @@ returns-3 c =
     let f = c .before .before .before .before .before .before .before .before .before .before .before .before .before .args .file .now in
     let o = c .before .before .before .before .before .before .before .before .before .before .before .before .before .args .words .now in
     gone-on (r12 f o ∷ []) (r13 f o ∷ r14 f o ∷ r8 f o ∷ r6 f o ∷ []) _ _ refl (c .before .before .before .before .before .before .before .before .before .before .row-verdict .ensures) (c .before .before .before .before .before .before .before .before .if1 .left)
-    (gone-on (r13 f o ∷ []) (r14 f o ∷ r8 f o ∷ r6 f o ∷ []) _ _ refl (rw (c .before .before .before .before .before .before .before .first-bad-block .ensures) at (c .before .before .before .before .before .row-verdict2 .ensures)) (c .before .before .before .if2 .left) (stopped (r14 f o ∷ []) (r8 f o ∷ r6 f o ∷ []) _ (rw (c .before .before .before .before .before .before .laid-out .ensures) at (c .before .before .row-verdict3 .ensures)) (c .if3 .taken)))
+    (gone-on (r13 f o ∷ []) (r14 f o ∷ r8 f o ∷ r6 f o ∷ []) _ _ refl (c .before .before .before .before .before .row-verdict2 .ensures ∙ ap (λ (n : ℕ). verdict (rowAt 13 (ltb n (blocks f)) n ∷ [])) (c .before .before .before .before .before .before .before .first-bad-block .ensures)) (c .before .before .before .if2 .left) (stopped (r14 f o ∷ []) (r8 f o ∷ r6 f o ∷ []) _ (rw (c .before .before .before .before .before .before .laid-out .ensures) at (c .before .before .row-verdict3 .ensures)) (c .if3 .taken)))
 
 num4-at-requires : tie.Need-num4-at-requires
 num4-at-requires c κs =
@@ -108,7 +108,7 @@ returns-4 c =
     let f = c .before .before .before .before .before .before .before .before .before .before .before .before .before .before .before .before .before .before .before .before .args .file .now in
     let o = c .before .before .before .before .before .before .before .before .before .before .before .before .before .before .before .before .before .before .before .before .args .words .now in
     gone-on (r12 f o ∷ []) (r13 f o ∷ r14 f o ∷ r8 f o ∷ r6 f o ∷ []) _ _ refl (c .before .before .before .before .before .before .before .before .before .before .before .before .before .before .before .before .before .row-verdict .ensures) (c .before .before .before .before .before .before .before .before .before .before .before .before .before .before .before .if1 .left)
-    (gone-on (r13 f o ∷ []) (r14 f o ∷ r8 f o ∷ r6 f o ∷ []) _ _ refl (rw (c .before .before .before .before .before .before .before .before .before .before .before .before .before .before .first-bad-block .ensures) at (c .before .before .before .before .before .before .before .before .before .before .before .before .row-verdict2 .ensures)) (c .before .before .before .before .before .before .before .before .before .before .if2 .left)
+    (gone-on (r13 f o ∷ []) (r14 f o ∷ r8 f o ∷ r6 f o ∷ []) _ _ refl (c .before .before .before .before .before .before .before .before .before .before .before .before .row-verdict2 .ensures ∙ ap (λ (n : ℕ). verdict (rowAt 13 (ltb n (blocks f)) n ∷ [])) (c .before .before .before .before .before .before .before .before .before .before .before .before .before .before .first-bad-block .ensures)) (c .before .before .before .before .before .before .before .before .before .before .if2 .left)
     (gone-on (r14 f o ∷ []) (r8 f o ∷ r6 f o ∷ []) _ _ refl (rw (c .before .before .before .before .before .before .before .before .before .before .before .before .before .laid-out .ensures) at (c .before .before .before .before .before .before .before .before .before .row-verdict3 .ensures)) (c .before .before .before .before .before .before .before .if3 .left) (stopped (r8 f o ∷ []) (r6 f o ∷ []) _ (given-8 f o _ _ _ (c .before .before .before .first-bad .ensures ∙ bad-at f (c .before .before .before .before .before .num2-at .ensures .0) (c .before .before .before .before .num2-at2 .ensures .0)) (c .before .before .before .before .before .before .num4-at .ensures) (c .before .before .row-verdict4 .ensures)) (c .if4 .taken))))
 
 row-verdict-requires-5 : tie.Need-row-verdict-requires-5
@@ -119,7 +119,7 @@ returns-5 c =
     let f = c .before .before .before .before .before .before .before .before .before .before .before .before .before .before .before .before .before .before .before .before .before .args .file .now in
     let o = c .before .before .before .before .before .before .before .before .before .before .before .before .before .before .before .before .before .before .before .before .before .args .words .now in
     gone-on (r12 f o ∷ []) (r13 f o ∷ r14 f o ∷ r8 f o ∷ r6 f o ∷ []) _ _ refl (c .before .before .before .before .before .before .before .before .before .before .before .before .before .before .before .before .before .before .row-verdict .ensures) (c .before .before .before .before .before .before .before .before .before .before .before .before .before .before .before .before .if1 .left)
-    (gone-on (r13 f o ∷ []) (r14 f o ∷ r8 f o ∷ r6 f o ∷ []) _ _ refl (rw (c .before .before .before .before .before .before .before .before .before .before .before .before .before .before .before .first-bad-block .ensures) at (c .before .before .before .before .before .before .before .before .before .before .before .before .before .row-verdict2 .ensures)) (c .before .before .before .before .before .before .before .before .before .before .before .if2 .left)
+    (gone-on (r13 f o ∷ []) (r14 f o ∷ r8 f o ∷ r6 f o ∷ []) _ _ refl (c .before .before .before .before .before .before .before .before .before .before .before .before .before .row-verdict2 .ensures ∙ ap (λ (n : ℕ). verdict (rowAt 13 (ltb n (blocks f)) n ∷ [])) (c .before .before .before .before .before .before .before .before .before .before .before .before .before .before .before .first-bad-block .ensures)) (c .before .before .before .before .before .before .before .before .before .before .before .if2 .left)
     (gone-on (r14 f o ∷ []) (r8 f o ∷ r6 f o ∷ []) _ _ refl (rw (c .before .before .before .before .before .before .before .before .before .before .before .before .before .before .laid-out .ensures) at (c .before .before .before .before .before .before .before .before .before .before .row-verdict3 .ensures)) (c .before .before .before .before .before .before .before .before .if3 .left)
     (gone-on (r8 f o ∷ []) (r6 f o ∷ []) _ _ refl (given-8 f o _ _ _ (c .before .before .before .before .first-bad .ensures ∙ bad-at f (c .before .before .before .before .before .before .num2-at .ensures .0) (c .before .before .before .before .before .num2-at2 .ensures .0)) (c .before .before .before .before .before .before .before .num4-at .ensures) (c .before .before .before .row-verdict4 .ensures)) (c .before .if4 .left) (rw (c .before .before .before .before .before .before .before .num4-at .ensures) at (c .row-verdict5 .ensures)))))
 

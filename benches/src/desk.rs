@@ -58,13 +58,6 @@ impl<'a> Desk<'a> {
         &self.file
     }
 
-    /// New memory for work, words and file.
-    pub fn renew(&mut self) {
-        self.work = vec![0; self.work.len()];
-        self.words = vec![0; self.words.len()];
-        self.file = vec![0; self.file.len()];
-    }
-
     fn list(&mut self) -> Answer {
         let p = self.picture;
         library::list(p.w, p.h, &p.px, &self.levels, &mut self.work, &mut self.words)

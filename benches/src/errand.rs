@@ -1,6 +1,8 @@
 //! The command `list -o` on a matte in a file, beside the calls that it makes and plain reading and writing of the same bytes.
+//! The command is a process of its own, and has its memory new from the system; the calls are lent the same memory in every repeat.
 
 use std::hint::black_box;
+use std::io::Read;
 use std::path::PathBuf;
 use std::process::{Command, Stdio};
 use std::{env, fs, process};
@@ -21,13 +23,6 @@ pub struct Errand {
 enum Way {
     Command,
     Calls,
-}
-
-/// The name of malloc's limit from which on memory comes from the system, and goes back there when it is freed.
-const FROM_SYSTEM: i32 = -3;
-
-extern "C" {
-    fn mallopt(name: i32, value: i32) -> i32;
 }
 
 /// A folder of its own, with the matte in it; it goes when this goes.
@@ -51,18 +46,17 @@ pub fn errand(picture: &Picture, count: usize, pace: Pace) -> Errand {
     let program = env::current_exe().expect("this program is a file").with_file_name("loafcanyon");
     let mut command = Command::new(program);
     command.arg("list").arg(&matte).args(["--levels", &names.join(","), "-o"]).arg(&by_command).stdout(Stdio::null());
-    // A program that runs once has its memory new from the system, so the calls are lent such memory too.
-    // SAFETY: it sets a number.
-    assert_eq!(unsafe { mallopt(FROM_SYSTEM, 1 << 17) }, 1, "malloc takes the limit");
     let mut desk = Desk::new(picture, levels(count));
     desk.check_list();
     assert!(desk.check_file(), "the list fits a file");
+    let mut read = Vec::new();
 
     let [command, calls] = pace.least([Way::Command, Way::Calls], |way| match way {
         Way::Command => assert!(command.status().is_ok_and(|status| status.success()), "the command is done"),
         Way::Calls => {
-            black_box(fs::read(&matte).expect("the matte is read"));
-            desk.renew();
+            read.clear();
+            let mut file = fs::File::open(&matte).expect("the matte is there");
+            black_box(file.read_to_end(&mut read).expect("the matte is read"));
             desk.run(Call::List);
             desk.run(Call::Write);
             fs::write(&by_calls, desk.file()).expect("the outline file is written");

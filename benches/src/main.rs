@@ -34,6 +34,7 @@ fn main() -> ExitCode {
     };
     let terrain = pictures::terrain();
     let matte = pictures::matte();
+    let errand = errand::errand(&matte, 8, pace);
     let mut seen = measure::whole(&matte, &[1, 8, 32, 255], pace);
     seen.extend(measure::whole(&terrain, &[1, 8, 32, 255], pace));
     // All levels of noise are 179 million words, more than is worth the memory.
@@ -41,8 +42,6 @@ fn main() -> ExitCode {
     seen.extend(measure::whole(&pictures::flat(), &[1, 8, 32, 255], pace));
     let framed = measure::framing(&terrain, pace);
     let grown = measure::growth(&terrain, &[256, 512, 1024, 2048], 8, pace);
-    // The last, since it changes how memory is had.
-    let errand = errand::errand(&matte, 8, pace);
     report::lists(&seen);
     report::paints(&seen);
     report::files(&seen);

@@ -2,9 +2,10 @@
 
 use std::ffi::OsStr;
 use std::fs::File;
-use std::io::{self, Read};
+use std::io::{self, ErrorKind, Read};
 
 use crate::error::Error;
+use crate::room::{room, Room};
 
 /// The name that messages use.
 pub fn name(path: &OsStr) -> String {
@@ -16,21 +17,38 @@ pub fn name(path: &OsStr) -> String {
 }
 
 /// All bytes, up to the limit, so that an endless input comes to an end too.
-pub fn read(path: &OsStr, limit: usize) -> Result<Vec<u8>, Error> {
-    let bytes = if path == "-" { up_to(&mut io::stdin().lock(), 0, limit) } else { file(path, limit) };
-    bytes.map_err(|error| Error::reading(name(path), &error))
-}
-
-fn file(path: &OsStr, limit: usize) -> io::Result<Vec<u8>> {
-    let mut file = File::open(path)?;
-    let length = file.metadata()?.len().min(limit as u64) as usize;
-    up_to(&mut file, length, limit)
-}
-
-fn up_to(source: &mut dyn Read, expected: usize, limit: usize) -> io::Result<Vec<u8>> {
-    let mut bytes = Vec::new();
+pub fn read(path: &OsStr, limit: usize) -> Result<Room<u8>, Error> {
+    let failed = |error| Error::reading(name(path), &error);
+    if path == "-" {
+        return up_to(&mut io::stdin().lock(), FIRST, limit, failed);
+    }
+    let mut file = File::open(path).map_err(failed)?;
+    let length = file.metadata().map_err(failed)?.len().min(limit as u64) as usize;
     // One more than expected: the end is then seen without growing.
-    bytes.try_reserve(expected + 1).map_err(|_| io::ErrorKind::OutOfMemory)?;
-    source.take(limit as u64).read_to_end(&mut bytes)?;
+    up_to(&mut file, length + 1, limit, failed)
+}
+
+/// How much of an input of unknown length is expected.
+const FIRST: usize = 1 << 20;
+
+fn up_to(
+    source: &mut dyn Read, expected: usize, limit: usize, failed: impl Fn(io::Error) -> Error,
+) -> Result<Room<u8>, Error> {
+    let mut bytes = room(expected.min(limit))?;
+    let mut there = 0;
+    loop {
+        match source.read(&mut bytes[there..]) {
+            Ok(0) if there < bytes.len() || there == limit => break,
+            Ok(0) => {
+                let mut more: Room<u8> = room(limit.min(2 * there))?;
+                more[..there].copy_from_slice(&bytes);
+                bytes = more;
+            }
+            Ok(count) => there += count,
+            Err(error) if error.kind() == ErrorKind::Interrupted => {}
+            Err(error) => return Err(failed(error)),
+        }
+    }
+    bytes.truncate(there);
     Ok(bytes)
 }

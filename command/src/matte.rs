@@ -5,7 +5,7 @@ use std::ffi::OsStr;
 use crate::error::Error;
 use crate::library::{self, Answer};
 use crate::pgm::{self, Header};
-use crate::room::room;
+use crate::room::{room, Room};
 use crate::{input, words};
 
 pub struct Matte {
@@ -13,7 +13,7 @@ pub struct Matte {
     pub w: usize,
     pub h: usize,
     /// The file, samples from `start` on, so that they need not be copied.
-    bytes: Vec<u8>,
+    bytes: Room<u8>,
     start: usize,
 }
 

@@ -3,25 +3,22 @@
 use crate::error::Error;
 use crate::library::{self, Answer, CrossingAnswer};
 use crate::matte::Matte;
-use crate::room::room;
+use crate::room::{room, Room};
 use crate::{levels, words};
-
-/// One word for so many samples is lent at first. Most mattes at a few levels have fewer; the call says what others need.
-const GUESS: usize = 4;
 
 pub struct Outlines<'a> {
     pub matte: &'a Matte,
     pub levels: &'a [u8],
-    pub words: Vec<u32>,
+    pub words: Room<u32>,
     pub lines: usize,
     /// The work bytes, free for other use once it is listed.
-    work: Vec<u8>,
+    work: Room<u8>,
 }
 
 /// The list, with the tree entry of each line.
 pub struct Tree<'a> {
     pub list: Outlines<'a>,
-    pub entries: Vec<u32>,
+    pub entries: Room<u32>,
 }
 
 impl<'a> Outlines<'a> {
@@ -31,19 +28,18 @@ impl<'a> Outlines<'a> {
         })
     }
 
-    /// By a call that lists, which is made again where it asks for more words.
+    /// By a call that lists. It is asked with no word places how many it needs, and then lent so many.
     fn by(
         matte: &'a Matte, levels: &'a [u8], mut call: impl FnMut(&mut [u8], &mut [u32]) -> Result<Answer, Error>,
     ) -> Result<Outlines<'a>, Error> {
         let mut work = room(matte.samples().len())?;
-        let mut words = room(work.len() / GUESS)?;
+        let mut words = Room::default();
         let mut answer = call(&mut work, &mut words)?;
         if answer.number == 6 {
             words = room(answer.place)?;
             answer = call(&mut work, &mut words)?;
         }
         matte.allow(&answer)?;
-        words.truncate(answer.words);
         Ok(Outlines { matte, levels, words, lines: answer.lines, work })
     }
 
@@ -52,20 +48,21 @@ impl<'a> Outlines<'a> {
         self.matte.samples()[0]
     }
 
-    /// The outline file, which takes the work bytes' place.
+    /// The outline file, which takes the work bytes' place where they are enough for it.
     pub fn file(&mut self) -> Result<&[u8], Error> {
         let (matte, border) = (self.matte, self.border());
+        // As the header for C has it. Asking the call would let it look at every word twice.
         let bytes = words::file_bytes(self.words.len());
         if self.work.len() < bytes {
             self.work = room(bytes)?;
         }
-        let file = &mut self.work[..bytes];
-        let answer = library::write(matte.w, matte.h, border, self.levels, &self.words, file);
+        self.work.truncate(bytes);
+        let answer = library::write(matte.w, matte.h, border, self.levels, &self.words, &mut self.work);
         if answer.number == 16 {
             return Err(Error::numbered(&matte.name, self.too_many(), 16));
         }
         matte.allow(&answer)?;
-        Ok(&self.work[..bytes])
+        Ok(&self.work)
     }
 
     /// Why it fits no file.
@@ -88,11 +85,16 @@ impl<'a> Outlines<'a> {
 
 impl<'a> Tree<'a> {
     pub fn of(matte: &'a Matte, levels: &'a [u8]) -> Result<Tree<'a>, Error> {
-        let mut entries = Vec::new();
+        let mut entries = Room::default();
         let list = Outlines::by(matte, levels, |work, words| {
-            // Half as many places as words are always enough.
-            entries = room(words.len() / 2)?;
-            Ok(library::tree(matte.w, matte.h, matte.samples(), levels, work, words, &mut entries))
+            let mut call =
+                |entries: &mut [u32]| library::tree(matte.w, matte.h, matte.samples(), levels, work, words, entries);
+            let asked = call(&mut []);
+            if asked.number != 7 {
+                return Ok(asked);
+            }
+            entries = room(asked.place)?;
+            Ok(call(&mut entries))
         })?;
         entries.truncate(list.lines);
         Ok(Tree { list, entries })

@@ -51,7 +51,7 @@ pub fn kind(lower: bool) -> char {
 impl Tree<'_> {
     /// A row for each line, in the list's order.
     pub fn rows(&self) -> impl Iterator<Item = Row> + '_ {
-        words::lines(&self.list.words).zip(&self.entries).enumerate().map(|(number, (line, &entry))| Row {
+        words::lines(&self.list.words).zip(self.entries.iter()).enumerate().map(|(number, (line, &entry))| Row {
             number,
             level: words::level(line[0]),
             parent: words::around(entry).checked_sub(1),

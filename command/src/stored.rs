@@ -5,7 +5,7 @@ use std::ffi::OsStr;
 use crate::error::Error;
 use crate::input;
 use crate::library;
-use crate::room::room;
+use crate::room::{room, Room};
 use crate::words;
 
 /// The bytes of the longest outline file.
@@ -17,7 +17,7 @@ pub struct Stored {
     pub h: usize,
     pub border: u8,
     pub levels: Vec<u8>,
-    pub words: Vec<u32>,
+    pub words: Room<u32>,
     pub lines: usize,
 }
 

@@ -71,7 +71,7 @@ fn text(out: &mut Sink, tree: &Tree) -> Result<(), Error> {
     let Tree { list, entries } = tree;
     let (w, h) = (list.matte.w, list.matte.h);
     writeln!(out, "{w} {h} {} {} {} {}", list.border(), list.levels.len(), list.words.len(), list.lines)?;
-    for (n, (line, &entry)) in words::lines(&list.words).zip(entries).enumerate() {
+    for (n, (line, &entry)) in words::lines(&list.words).zip(entries.iter()).enumerate() {
         let (level, kind) = (words::level(line[0]), kind(words::lower(entry)));
         writeln!(out, "{n} {level} {} {kind} {}", words::around(entry), line.len())?;
         for &word in line {

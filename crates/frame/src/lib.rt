@@ -221,21 +221,22 @@ fn copy_run(px: &[u8], room: &mut [u8], from: usize, to: usize)
     }
 }
 
-// Writes the picture with v on its border.
+// Writes the picture with v on its border. Rows are copied whole, so that they begin where rows begin, and their ends are written over.
 fn frame_rows(w: usize, h: usize, px: &[u8], v: u8, room: &mut [u8])
     requires { ⌜ (Sides w h) × (length (now px) ≡ w * h) × (w * h ≤ length (now room)) ⌝ }
     ensures { λ _. ⌜ Filled (framing w h v (now (px .entry))) (now (room .entry)) (w * h) (now (room .exit)) ⌝ }
 {
     let n = area(w, h);
-    let mut i = w + 1;
+    let mut i = w;
     let mut y = 1;
     fill_run(room, 0, i, v);
     while y + 1 < h {
-        let a = i + w - 2;
-        copy_run(px, room, i, a);
-        i = a + 2;
+        let stop = i + w;
+        copy_run(px, room, i, stop);
+        room[i] = v;
+        room[stop - 1] = v;
+        i = stop;
         y += 1;
-        fill_run(room, a, i, v);
     }
     fill_run(room, i, n, v);
 }

@@ -1,7 +1,7 @@
 -- What framing gives. Assumes nothing.
--- Main laws: `framed-long` as many samples as the picture has; `framed-at` a sample of the framed picture; `framed-fits` its border is all one value; `framed-4` so refusal 4 is never given for it.
+-- Main laws: `framed-long` as many samples as the picture has; `framed-at` a sample of the framed picture; `framed-fits` its border is all one value; `framed-cold` so none of 4, 17, 18 and 19 is ever given for it.
 use mathlib.Core.Path.{_≡_, sym, ap, _∙_}
-use mathlib.Core.Bool.{Bool, true, false, not, _||_, cond}
+use mathlib.Core.Bool.{Bool, true, false, not, _&&_, _||_, cond}
 use mathlib.Core.List.{List}
 use Prim.Native.Nat.{ℕ, _*_, _≤_, _<_}
 use native.Mathlib.Nat.{zero-add}
@@ -14,7 +14,8 @@ use Rattle.tally.proofs.Every.{every-from}
 use Rattle.tally.proofs.Build.{build-length, build-at}
 use Rattle.matte.specs.Layout.{Layout}
 use Rattle.matte.specs.Picture.{Picture, picture, size, at, onBorder, borderFits}
-use Rattle.refuse.specs.Refusal.{borderRow}
+use Rattle.refuse.specs.Hot.{hot, edge, edgeRow}
+use Rattle.refuse.proofs.Edges.{hot-unfit}
 use Rattle.refuse.specs.Shape.{Sides}
 use Rattle.frame.specs.Frame.{borderSamples, median, framed}
 use Rattle.frame.proofs.Edge.{on-top}
@@ -46,5 +47,7 @@ module _ (L : Layout) (w h : ℕ) (S : Sides w h) (px : List ℕ) where
       (λ e. rw (e, eq-eqb (getD F i 0) (getD F 0 0) (on-it i l e ∙ sym (on-it 0 (omega (arith, rows-le w h S 0 (omega (arith, S .h-least)))) (on-top w h 0 (omega arith))))))
       (λ e. rw e))
 
-  pub framed-4 : borderRow (picture w h (framed L (picture w h px))) .given ≡ false
-  framed-4 = ap not framed-fits
+  pub framed-cold : (n : ℕ) → edgeRow (picture w h (framed L (picture w h px))) n .given ≡ false
+  framed-cold n =
+      let F = picture w h (framed L (picture w h px)) in
+      ap (λ (b : Bool). b && eqb (edge w h (hot F)) n) (hot-unfit F ∙ ap not framed-fits)

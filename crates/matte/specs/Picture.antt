@@ -1,6 +1,6 @@
 -- A picture and its levels. Assumes nothing.
 -- Definitions: `Picture` sides and samples, `picture` makes one; `size` how many samples there are to be; `at` the sample at a place; `high` it is above a level; `onBorder` a place lies on the
---   border; `sideFits`, `samplesFit`, `levelsFit`, `borderFits` what refusals 1 to 4 ask.
+--   border; `sideFits`, `samplesFit`, `levelsFit` what refusals 1 to 3 ask; `borderFits` what 4 asked before it was split by edge, and what the laws of lines ask.
 use mathlib.Core.Bool.{Bool, true, not, _&&_, _||_}
 use mathlib.Core.List.{List, [], _∷_}
 use Prim.Native.Nat.{ℕ, _+_, _*_, _/_, _%_}
@@ -50,6 +50,6 @@ module _ (P : Picture) where
   abbrev pub high : ℕ → ℕ → Bool
   high k i = ltb k (at i)
 
-  -- all border samples have one value, that of sample 0 (01, Numbers for a refused call, 4)
+  -- all border samples have one value, that of sample 0 (01, Numbers for a refused call, 4). The rows of 02, R-1 are in refuse/Hot; a law there says that one of them is given exactly when this does not hold
   unfoldable pub borderFits : Bool
   borderFits = every (λ i. not (onBorder (P .w) (P .h) i) || eqb (at i) (at 0)) size

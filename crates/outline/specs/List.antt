@@ -34,7 +34,7 @@ module _ (L : Layout) where
     listed (k ∷ ks) = levelWords k (lines P k) ++ listed ks
 
     module _ (ks work out : List ℕ) where
-      -- 1 2 3 4 5 6 (01, Numbers for a refused call)
+      -- 1 2 3 4 17 18 19 5 6 (01, Numbers for a refused call; 02, R-1)
       abbrev pub listRows : List Row
       listRows = groundRows L P ks ++ (workRow P work ∷ wordsRow out (length (listed ks)) ∷ [])
 

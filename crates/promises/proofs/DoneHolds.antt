@@ -12,7 +12,6 @@ use contract.Lifetimes.{Lfts}
 use denote.Ref.{now}
 use denote.Triple.Entry.{Args, Res}
 use denote.Triple.Clauses.{Ended, Lasts, AtExit, atExit}
-use borrow.Author.Tests.{not-false}
 use Rattle.tally.specs.Tally.{tally}
 use Rattle.tally.proofs.Build.{build-length}
 use Rattle.refuse.specs.declared.Answer.{Answer}
@@ -37,13 +36,15 @@ use Rattle.olr.proofs.There.{file-length}
 use Rattle.olr.proofs.Write.{writable}
 use Rattle.trace.proofs as Trace
 use Rattle.tree.proofs as Tree
+use Rattle.tree.proofs.Verdicts.{passed-both}
 use Rattle.frame.proofs as Frame
 use Rattle.paint.proofs as Paint
 use Rattle.olr.proofs as Olr
 use Rattle.host.proofs as Host
-use Rattle.promises.proofs.RefusedExactly.{same-number, tree-exactly}
+use Rattle.promises.proofs.RefusedExactly.{same-number}
 use Rattle.promises.proofs.DemandThree.{Scan}
 use Rattle.promises.proofs.DemandThreeWords.{setting}
+use Rattle.promises.proofs.DemandTwoCalls.{list-scan}
 
 -- of a buffer that held `was` and then holds `is`: the first n places are `new`, the rest is left
 pub record Holds (n : ℕ) (new was is : List ℕ) : Type 0 where
@@ -71,9 +72,7 @@ module _ (P : Picture) (ks work out : List ℕ) where
 
   module _ (tree : List ℕ) (e : treeAnswer eight P ks work out tree .number ≡ 0) where
     pub tree-scan : Scan P ks
-    tree-scan =
-        let given = tree-exactly P ks work out tree .done .0 e in
-        record { sides = not-false _ (given 0); levels = not-false _ (given 2); border = not-false _ (given 3) }
+    tree-scan = list-scan P ks work out (passed-both eight P ks work out tree (sym (same-number (treeVerdict eight P ks work out tree) _ _) ∙ e) .0)
 
     pub tree-holds : Holds (treeAnswer eight P ks work out tree .words) (listed eight P ks) out (treeWords eight P ks work out tree)
         × Holds (treeAnswer eight P ks work out tree .lines) (entries eight P ks) tree (treeEntries eight P ks work out tree)

@@ -21,3 +21,5 @@ pub mod DemandTwoPaint
 pub mod DemandTwoFile
 pub mod DemandTwoCalls
 pub mod ListThen
+pub mod HotSample
+pub mod HotCalls

@@ -137,10 +137,10 @@ module _ (ns : List ℕ) (rs : List Row) (words lines : ℕ) (order : numbers rs
   }
 
 module _ (P : Picture) (ks work out : List ℕ) where
-  pub list-exactly : Exactly (1 ∷ 2 ∷ 3 ∷ 4 ∷ 5 ∷ 6 ∷ []) (listRows eight P ks work out) (listAnswer eight P ks work out)
+  pub list-exactly : Exactly (1 ∷ 2 ∷ 3 ∷ 4 ∷ 17 ∷ 18 ∷ 19 ∷ 5 ∷ 6 ∷ []) (listRows eight P ks work out) (listAnswer eight P ks work out)
   list-exactly = exactly _ (listRows eight P ks work out) _ _ refl refl
 
-  pub tree-exactly : (tree : List ℕ) → Exactly (1 ∷ 2 ∷ 3 ∷ 4 ∷ 5 ∷ 6 ∷ 7 ∷ []) (treeRows eight P ks work out tree) (treeAnswer eight P ks work out tree)
+  pub tree-exactly : (tree : List ℕ) → Exactly (1 ∷ 2 ∷ 3 ∷ 4 ∷ 17 ∷ 18 ∷ 19 ∷ 5 ∷ 6 ∷ 7 ∷ []) (treeRows eight P ks work out tree) (treeAnswer eight P ks work out tree)
   tree-exactly tree = exactly _ (treeRows eight P ks work out tree) _ _ refl refl
 
 module _ (P : Picture) where

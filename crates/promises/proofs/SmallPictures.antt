@@ -1,9 +1,10 @@
 -- The small pictures hold. Assumes nothing.
 -- Main law: `small-pictures` the table worked out from the definitions is the paper's.
 use mathlib.Core.Path.{_≡_, refl}
-use Rattle.tally.specs.Tally.{every, sum, build, count, tally, pick, total}
+use Rattle.tally.specs.Tally.{sum, build, count, tally, firstFrom, pick, total}
 use Rattle.orbit.specs.Orbit.{orbit, low, leads}
-use Rattle.matte.specs.Picture.{ascend, borderFits}
+use Rattle.matte.specs.Picture.{ascend}
+use Rattle.refuse.specs.Hot.{hot}
 use Rattle.edgel.specs.Edgel.{edgel, crossed, cut, headingAt}
 use Rattle.cell.specs.Turn.{saddle, leave, next}
 use Rattle.piece.specs.Piece.{pieceOf}
@@ -14,5 +15,5 @@ use Rattle.enclosure.specs.Tree.{leadWords, best, firsts, levelAt, leadAt, arou
 use Rattle.promises.specs.Small.{shown, expected}
 
 pub small-pictures : shown ≡ expected
-unfolding every sum build count tally pick total orbit low leads ascend borderFits edgel crossed cut headingAt saddle leave next pieceOf line isLead lines encode levelWords listed key onLeft nearest leadWords best firsts levelAt leadAt around near parent kindBy kind entry
+unfolding sum build count tally firstFrom pick total orbit low leads ascend hot edgel crossed cut headingAt saddle leave next pieceOf line isLead lines encode levelWords listed key onLeft nearest leadWords best firsts levelAt leadAt around near parent kindBy kind entry
 small-pictures = refl

@@ -1,153 +1,179 @@
--- The border test as four runs: first and last row, first and last column. Assumes nothing.
--- Definitions: `run` the samples of a run are all v.
--- Main laws: `border-runs` where the border fits, every run does; `runs-border` and back; `top-at`, `bottom-at`, `left-at`, `right-at` the places of the runs are in the picture, on its border.
+-- The border in its order: the first row, the ends of the rows between, the last row. Assumes nothing.
+-- Definitions: `Along` where the search along the ends of rows stands: no end before row y is other than v.
+-- Main laws: `two-rows` there are at least two; `along-in` a row between lies in the picture, `along-next` it is passed, `left-is`, `right-is`, `along-end` where that search ends; `found-top`, `found-end`, `found-bottom` what the search in each part finds is the first hot sample.
 use mathlib.Core.Path.{_≡_, refl, sym, ap, _∙_}
 use mathlib.Core.Bool.{Bool, true, false, not, _&&_, _||_}
 use mathlib.Core.List.{List}
-use Prim.Native.Nat.{ℕ, zero, suc, _+_, _-_, _*_, _/_, _%_, _≤_, _<_}
-use native.Mathlib.Nat.{div-add-mod', mod-lt, mul-le-mul-right, zero-mul}
+use Prim.Native.Nat.{ℕ, suc, _+_, _-_, _*_, _/_, _%_, _≤_, _<_}
+use native.Mathlib.Nat.{div-add-mod', mod-lt, mul-le-mul, mul-le-mul-right, zero-mul}
 use native.Mathlib.Omega.{arith}
 use lib.Dec.{eqb, ltb}
-use lib.Arith.{digits-div, digits-mod, digits-lt}
+use lib.Arith.{digits-div, digits-mod}
 use lib.ListN.{getD}
-use borrow.Author.Tests.{eqb-true, eqb-false, eq-eqb, ltb-true, ltb-false}
-use Rattle.tally.specs.Tally.{every}
-use Rattle.tally.proofs.Test.{by-test, no, and-1, and-2}
-use Rattle.tally.proofs.Every.{every-at, every-from}
-use Rattle.matte.specs.Picture.{Picture, at, size, onBorder, borderFits}
+use borrow.Author.Tests.{eq-eqb, ne-eqb, eqb-true, eqb-false, ltb-true, ltb-false}
+use Rattle.tally.specs.Tally.{firstFrom}
+use Rattle.tally.proofs.Test.{by-test, no, both, or-1, or-2}
+use Rattle.tally.proofs.First.{from-before, from-is, from-same, from-over, from-long}
+use Rattle.matte.specs.Picture.{picture, onBorder}
+use Rattle.refuse.specs.Hot.{isHot, hot}
 use Rattle.refuse.specs.Shape.{Sides}
+use Rattle.refuse.specs.Ends.{otherAt, endOther}
 
-abbrev pub run : List ℕ → ℕ → ℕ → ℕ → ℕ → Bool
-run px from step n v = every (λ j. eqb (getD px (from + j * step) 0) v) n
+off-1 : (a b : Bool) → a ≡ false → (a && b) ≡ false
+off-1 true b e = no refl e
+off-1 false b e = refl
 
--- the four tests of a border place
-abbrev t0 : ℕ → ℕ → ℕ → Bool
-t0 w h i = eqb (i / w) 0
+off-2 : (a b : Bool) → b ≡ false → (a && b) ≡ false
+off-2 true b e = e
+off-2 false b e = refl
 
-abbrev t1 : ℕ → ℕ → ℕ → Bool
-t1 w h i = eqb (i / w + 1) h
-
-abbrev t2 : ℕ → ℕ → ℕ → Bool
-t2 w h i = eqb (i % w) 0
-
-abbrev t3 : ℕ → ℕ → ℕ → Bool
-t3 w h i = eqb (i % w + 1) w
-
-or-cases : {Q : Type 0} (a b c d : Bool) → (a || (b || (c || d))) ≡ true → (a ≡ true → Q) → (b ≡ true → Q) → (c ≡ true → Q) → (d ≡ true → Q) → Q
-or-cases true b c d e f g p q = f refl
-or-cases false true c d e f g p q = g refl
-or-cases false false true d e f g p q = p refl
-or-cases false false false d e f g p q = q e
-
-or-1 : (a b c d : Bool) → a ≡ true → (a || (b || (c || d))) ≡ true
-or-1 true b c d e = refl
-or-1 false b c d e = no e refl
-
-or-2 : (a b c d : Bool) → b ≡ true → (a || (b || (c || d))) ≡ true
-or-2 true b c d e = refl
-or-2 false true c d e = refl
-or-2 false false c d e = no e refl
-
-or-3 : (a b c d : Bool) → c ≡ true → (a || (b || (c || d))) ≡ true
-or-3 true b c d e = refl
-or-3 false true c d e = refl
-or-3 false false true d e = refl
-or-3 false false false d e = no e refl
-
-or-4 : (a b c d : Bool) → d ≡ true → (a || (b || (c || d))) ≡ true
-or-4 true b c d e = refl
-or-4 false true c d e = refl
-or-4 false false true d e = refl
-or-4 false false false d e = e
-
-on-it : (a b : Bool) → (not a || b) ≡ true → a ≡ true → b ≡ true
-on-it true b e h = e
-on-it false b e h = no h refl
-
-off-or : (a b : Bool) → (a ≡ true → b ≡ true) → (not a || b) ≡ true
-off-or true b f = f refl
-off-or false b f = refl
+or-off : {a b : Bool} → a ≡ false → b ≡ false → (a || b) ≡ false
+or-off {a = true} {b = b} e f = no refl e
+or-off {a = false} {b = b} e f = f
 
 module _ (w h : ℕ) (S : Sides w h) where
-  in-picture : (y x : ℕ) → y < h → x < w → y * w + x < w * h
-  in-picture y x a b = omega (arith, digits-lt a b)
-
-  row-below : (i : ℕ) → i < w * h → i / w < h
-  row-below i l =
-      by-test (ltb (i / w) h) (λ e. ltb-true _ _ e)
-      (λ e.
-      let a : h * w ≤ i / w * w = mul-le-mul-right w (ltb-false (i / w) h e) in
-      absurd (omega (arith, div-add-mod' i w)))
-
-  -- where the runs stand
-  pub top-at : (j : ℕ) → j < w → (0 + j * 1 < w * h) × (onBorder w h (0 + j * 1) ≡ true)
-  top-at j l =
-      let s : 0 + j * 1 ≡ 0 * w + j = omega (arith, zero-mul w) in
-      rw s (in-picture 0 j (omega (arith, S .h-least)) l, or-1 (t0 w h (0 * w + j)) (t1 w h (0 * w + j)) (t2 w h (0 * w + j)) (t3 w h (0 * w + j)) (eq-eqb _ _ (digits-div 0 l)))
+  -- the row of a place
+  row-of : (y i : ℕ) → y * w ≤ i → i < y * w + w → i / w ≡ y
+  row-of y i a b = let s : y * w + (i - y * w) ≡ i = omega arith in ap (λ (z : ℕ). z / w) (sym s) ∙ digits-div y (omega arith)
 
   last : w * h - w ≡ (h - 1) * w
   last = let s : h ≡ suc (h - 1) = omega (arith, S .h-least) in let t : w * h ≡ w * suc (h - 1) = ap (λ (z : ℕ). w * z) s in omega arith
 
-  pub bottom-at : (j : ℕ) → j < w → (w * h - w + j * 1 < w * h) × (onBorder w h (w * h - w + j * 1) ≡ true)
-  bottom-at j l =
-      let s : w * h - w + j * 1 ≡ (h - 1) * w + j = omega (arith, last) in
-      let i = (h - 1) * w + j in
-      let r : i / w ≡ h - 1 = digits-div (h - 1) l in
-      rw s (in-picture (h - 1) j (omega (arith, S .h-least)) l, or-2 (t0 w h i) (t1 w h i) (t2 w h i) (t3 w h i) (eq-eqb (i / w + 1) h (omega (arith, S .h-least))))
+  pub two-rows : w + w ≤ w * h
+  two-rows = omega (arith, mul-le-mul-right w (S .h-least))
 
-  pub left-at : (j : ℕ) → j < h → (0 + j * w < w * h) × (onBorder w h (0 + j * w) ≡ true)
-  left-at j l =
-      let s : 0 + j * w ≡ j * w + 0 = omega arith in
-      let i = j * w + 0 in
-      let p : 0 < w = omega (arith, S .w-least) in
-      rw s (in-picture j 0 l p, or-3 (t0 w h i) (t1 w h i) (t2 w h i) (t3 w h i) (eq-eqb (i % w) 0 (digits-mod j p)))
+  on-top : (i : ℕ) → i < w → onBorder w h i ≡ true
+  on-top i l = or-1 (eqb (i / w) 0) _ (eq-eqb (i / w) 0 (row-of 0 i (omega (arith, zero-mul w)) (omega (arith, zero-mul w))))
 
-  pub right-at : (j : ℕ) → j < h → (w - 1 + j * w < w * h) × (onBorder w h (w - 1 + j * w) ≡ true)
-  right-at j l =
-      let s : w - 1 + j * w ≡ j * w + (w - 1) = omega arith in
-      let i = j * w + (w - 1) in
-      let p : w - 1 < w = omega (arith, S .w-least) in
-      let r : i % w ≡ w - 1 = digits-mod j p in
-      rw s (in-picture j (w - 1) l p, or-4 (t0 w h i) (t1 w h i) (t2 w h i) (t3 w h i) (eq-eqb (i % w + 1) w (omega (arith, S .w-least))))
+  on-bottom : (i : ℕ) → w * h - w ≤ i → i < w * h → onBorder w h i ≡ true
+  on-bottom i a b =
+      let r : i / w ≡ h - 1 = row-of (h - 1) i (omega (arith, last)) (omega (arith, last, two-rows)) in
+      or-2 (eqb (i / w) 0) _ (or-1 (eqb (i / w + 1) h) _ (eq-eqb (i / w + 1) h (omega (arith, S .h-least))))
 
-  pub record Runs (px : List ℕ) : Type 0 where
-    pub top : run px 0 1 w (getD px 0 0) ≡ true
-    pub bottom : run px (w * h - w) 1 w (getD px 0 0) ≡ true
-    pub lefts : run px 0 w h (getD px 0 0) ≡ true
-    pub rights : run px (w - 1) w h (getD px 0 0) ≡ true
-
-  pub border-runs : (px : List ℕ) → borderFits (record { w = w; h = h; px = px }) ≡ true → Runs px
-  unfolding borderFits
-  border-runs px e =
-      let at-place : (i : ℕ) → i < w * h → onBorder w h i ≡ true → eqb (getD px i 0) (getD px 0 0) ≡ true =
-      λ i l o. on-it (onBorder w h i) _ (every-at (λ i. not (onBorder w h i) || eqb (getD px i 0) (getD px 0 0)) (w * h) e i l) o in
-      record {
-        top = every-from (λ j. eqb (getD px (0 + j * 1) 0) (getD px 0 0)) w (λ j l. at-place (0 + j * 1) (top-at j l .0) (top-at j l .1));
-        bottom = every-from (λ j. eqb (getD px (w * h - w + j * 1) 0) (getD px 0 0)) w (λ j l. at-place (w * h - w + j * 1) (bottom-at j l .0) (bottom-at j l .1));
-        lefts = every-from (λ j. eqb (getD px (0 + j * w) 0) (getD px 0 0)) h (λ j l. at-place (0 + j * w) (left-at j l .0) (left-at j l .1));
-        rights = every-from (λ j. eqb (getD px (w - 1 + j * w) 0) (getD px 0 0)) h (λ j l. at-place (w - 1 + j * w) (right-at j l .0) (right-at j l .1));
-      }
-
-  pub runs-border : (px : List ℕ) → Runs px → borderFits (record { w = w; h = h; px = px }) ≡ true
-  unfolding borderFits
-  runs-border px R =
-      every-from (λ i. not (onBorder w h i) || eqb (getD px i 0) (getD px 0 0)) (w * h)
-      (λ i l.
-      let m : i % w < w = mod-lt i (omega (arith, S .w-least)) in
-      let a : i / w < h = row-below i l in
+  -- between the first and the last row only the ends are on it
+  on-ends : (i : ℕ) → w ≤ i → i < w * h - w → onBorder w h i ≡ (eqb (i % w) 0 || eqb (i % w + 1) w)
+  on-ends i a b =
       let d : i / w * w + i % w ≡ i = div-add-mod' i w in
-      let same-at : (x : ℕ) → x ≡ i → eqb (getD px x 0) (getD px 0 0) ≡ true → eqb (getD px i 0) (getD px 0 0) ≡ true =
-      λ x s t. ap (λ (z : ℕ). eqb (getD px z 0) (getD px 0 0)) (sym s) ∙ t in
-      off-or (onBorder w h i) _
-      (λ o. or-cases (t0 w h i) (t1 w h i) (t2 w h i) (t3 w h i) o
-      (λ e.
-      let q : i / w * w ≡ 0 * w = ap (λ (y : ℕ). y * w) (eqb-true (i / w) 0 e) in
-      same-at (0 + i * 1) (omega arith) (every-at (λ j. eqb (getD px (0 + j * 1) 0) (getD px 0 0)) w (R .top) i (omega (arith, zero-mul w))))
-      (λ e.
-      let z : i / w ≡ h - 1 = omega (arith, eqb-true (i / w + 1) h e) in
-      let q : i / w * w ≡ (h - 1) * w = ap (λ (y : ℕ). y * w) z in
-      same-at (w * h - w + (i % w) * 1) (omega (arith, last)) (every-at (λ j. eqb (getD px (w * h - w + j * 1) 0) (getD px 0 0)) w (R .bottom) (i % w) m))
-      (λ e.
-      same-at (0 + i / w * w) (omega (arith, eqb-true (i % w) 0 e)) (every-at (λ j. eqb (getD px (0 + j * w) 0) (getD px 0 0)) h (R .lefts) (i / w) a))
-      (λ e.
-      same-at (w - 1 + i / w * w) (omega (arith, eqb-true (i % w + 1) w e)) (every-at (λ j. eqb (getD px (w - 1 + j * w) 0) (getD px 0 0)) h (R .rights) (i / w) a))))
+      let m : i % w < w = mod-lt i (omega (arith, S .w-least)) in
+      let t : eqb (i / w) 0 ≡ false = ne-eqb (i / w) 0 (λ e. let q : i / w * w ≡ 0 * w = ap (λ (y : ℕ). y * w) e in omega (arith, zero-mul w)) in
+      let u : eqb (i / w + 1) h ≡ false =
+      ne-eqb (i / w + 1) h (λ e. let z : i / w ≡ h - 1 = omega arith in let q : i / w * w ≡ (h - 1) * w = ap (λ (y : ℕ). y * w) z in omega (arith, last)) in
+      rw (t, u)
+
+-- ---- the ends of rows, row y beginning at i
+pub record Along (w h : ℕ) (px : List ℕ) (v i y : ℕ) : Type 0 where
+  pub least : 1 ≤ y
+  pub most : y + 1 ≤ h
+  pub start : i ≡ y * w
+  pub clear : (d : ℕ) → w ≤ d → d < i → endOther w px v d ≡ false
+
+module _ {w h : ℕ} (S : Sides w h) {px : List ℕ} {v i y : ℕ} (A : Along w h px v i y) where
+  same-not : (d : ℕ) → getD px d 0 ≡ v → endOther w px v d ≡ false
+  same-not d e = off-2 (eqb (d % w) 0 || eqb (d % w + 1) w) _ (ap not (eq-eqb (getD px d 0) v e))
+
+  column : (d : ℕ) → i ≤ d → d < i + w → d % w ≡ d - i
+  column d a b = let s : y * w + (d - i) ≡ d = omega (arith, A .start) in ap (λ (z : ℕ). z % w) (sym s) ∙ digits-mod y (omega arith)
+
+  inside : (d : ℕ) → i < d → d + 1 < i + w → endOther w px v d ≡ false
+  inside d a b =
+      let m : d % w ≡ d - i = column d (omega arith) (omega arith) in
+      off-1 _ (otherAt px v d) (or-off (ne-eqb (d % w) 0 (λ e. omega arith)) (ne-eqb (d % w + 1) w (λ e. omega arith)))
+
+  to-right : getD px i 0 ≡ v → (d : ℕ) → w ≤ d → d < i + w - 1 → endOther w px v d ≡ false
+  to-right e d a b =
+      by-test (ltb d i)
+      (λ t. A .clear d a (ltb-true d i t))
+      (λ t. by-test (eqb d i)
+      (λ s. same-not d (ap (λ (z : ℕ). getD px z 0) (eqb-true d i s) ∙ e))
+      (λ s. inside d (omega (arith, ltb-false d i t, eqb-false d i s)) (omega arith)))
+
+  pub along-end : y + 1 ≡ h → i ≡ firstFrom (endOther w px v) w (w * h - w - w)
+  along-end e =
+      let z : y ≡ h - 1 = omega arith in
+      let q : y * w ≡ (h - 1) * w = ap (λ (t : ℕ). t * w) z in
+      let n : i ≡ w * h - w = omega (arith, A .start, last w h S) in
+      sym (from-is (endOther w px v) w (w * h - w - w) i (omega (arith, two-rows w h S)) (omega arith) (A .clear) (λ t. absurd (omega (arith, t, two-rows w h S))))
+
+  module _ (l : y + 1 < h) where
+    pub along-in : (w ≤ i) × (i + w ≤ w * h - w) × (w * h ≤ 4194304)
+    along-in =
+        let a : 1 * w ≤ y * w = mul-le-mul-right w (A .least) in
+        let s : y + 1 ≤ h - 1 = omega arith in
+        let b : (y + 1) * w ≤ (h - 1) * w = mul-le-mul-right w s in
+        (omega (arith, A .start), omega (arith, A .start, last w h S), omega (arith, mul-le-mul (S .w-most) (S .h-most)))
+
+    pub along-next : getD px i 0 ≡ v → getD px (i + w - 1) 0 ≡ v → Along w h px v (i + w) (y + 1)
+    along-next e f = record {
+      least = omega arith;
+      most = omega arith;
+      start = omega (arith, A .start);
+      clear = λ d a b.
+          by-test (eqb d (i + w - 1))
+          (λ s. same-not d (ap (λ (z : ℕ). getD px z 0) (eqb-true d (i + w - 1) s) ∙ f))
+          (λ s. to-right e d a (omega (arith, eqb-false d (i + w - 1) s)));
+    }
+
+    pub left-is : (getD px i 0 ≡ v → ⊥) → i ≡ firstFrom (endOther w px v) w (w * h - w - w)
+    left-is n =
+        let m : i % w ≡ i - i = column i (omega arith) (omega (arith, S .w-least)) in
+        sym
+        (from-is (endOther w px v) w (w * h - w - w) i (along-in .0) (omega (arith, along-in)) (A .clear)
+        (λ t. both (or-1 (eqb (i % w) 0) _ (eq-eqb (i % w) 0 (omega arith))) (ap not (ne-eqb (getD px i 0) v n))))
+
+    pub right-is : getD px i 0 ≡ v → (getD px (i + w - 1) 0 ≡ v → ⊥) → i + w - 1 ≡ firstFrom (endOther w px v) w (w * h - w - w)
+    right-is e n =
+        let r = i + w - 1 in
+        let m : r % w ≡ r - i = column r (omega (arith, S .w-least)) (omega (arith, S .w-least)) in
+        sym
+        (from-is (endOther w px v) w (w * h - w - w) r (omega (arith, along-in, S .w-least)) (omega (arith, along-in)) (to-right e)
+        (λ t. both (or-2 (eqb (r % w) 0) _ (eq-eqb (r % w + 1) w (omega (arith, S .w-least)))) (ap not (ne-eqb (getD px r 0) v n))))
+
+-- ---- all of it
+module _ (w h : ℕ) (S : Sides w h) (px : List ℕ) where
+  abbrev v : ℕ
+  v = getD px 0 0
+
+  abbrev H : ℕ → Bool
+  H = isHot (picture w h px)
+
+  abbrev O : ℕ → Bool
+  O = otherAt px v
+
+  -- each part's search is one for a hot sample
+  top-same : firstFrom O 0 (w - 0) ≡ firstFrom H 0 (w - 0)
+  top-same = from-same O H 0 (w - 0) (λ i a b. ap (λ (t : Bool). t && O i) (sym (on-top w h S i (omega arith))))
+
+  end-same : firstFrom (endOther w px v) w (w * h - w - w) ≡ firstFrom H w (w * h - w - w)
+  end-same = from-same (endOther w px v) H w (w * h - w - w) (λ i a b. ap (λ (t : Bool). t && O i) (sym (on-ends w h S i a (omega (arith, b, two-rows w h S)))))
+
+  bottom-same : firstFrom O (w * h - w) (w * h - (w * h - w)) ≡ firstFrom H (w * h - w) (w * h - (w * h - w))
+  bottom-same =
+      from-same O H (w * h - w) (w * h - (w * h - w)) (λ i a b. ap (λ (t : Bool). t && O i) (sym (on-bottom w h S i a (omega (arith, b, two-rows w h S)))))
+
+  all : firstFrom H 0 (w * h - 0) ≡ hot (picture w h px)
+  unfolding hot
+  all = let s : w * h - 0 ≡ w * h = omega arith in ap (λ (z : ℕ). firstFrom H 0 z) s
+
+  pub found-top : (r : ℕ) → r ≡ firstFrom O 0 (w - 0) → r < w → r ≡ hot (picture w h px)
+  found-top r e l =
+      let s : r ≡ firstFrom H 0 (w - 0) = e ∙ top-same in
+      s ∙ from-long H 0 (w - 0) (w * h - 0) (omega (arith, two-rows w h S)) (omega (arith, s, l)) ∙ all
+
+  module _ (i : ℕ) (e : i ≡ firstFrom O 0 (w - 0)) (l : w ≤ i) where
+    top-clear : (j : ℕ) → 0 ≤ j → j < w → H j ≡ false
+    top-clear j a b = from-before H 0 (w - 0) j a (omega (arith, e ∙ top-same, l, b))
+
+    pub found-end : (r : ℕ) → r ≡ firstFrom (endOther w px v) w (w * h - w - w) → r < w * h - w → r ≡ hot (picture w h px)
+    found-end r d m =
+        let s : r ≡ firstFrom H w (w * h - w - w) = d ∙ end-same in
+        s ∙ from-long H w (w * h - w - w) (w * h - w) (omega arith) (omega (arith, s, m, two-rows w h S)) ∙ from-over H 0 w (w * h) (omega arith) (omega (arith, two-rows w h S)) top-clear ∙ all
+
+    module _ (j : ℕ) (d : j ≡ firstFrom (endOther w px v) w (w * h - w - w)) (m : w * h - w ≤ j) where
+      ends-clear : (k : ℕ) → 0 ≤ k → k < w * h - w → H k ≡ false
+      ends-clear k a b =
+          by-test (ltb k w)
+          (λ t. top-clear k a (ltb-true k w t))
+          (λ t. from-before H w (w * h - w - w) k (ltb-false k w t) (omega (arith, d ∙ end-same, m, b)))
+
+      pub found-bottom : (r : ℕ) → r ≡ firstFrom O (w * h - w) (w * h - (w * h - w)) → r ≡ hot (picture w h px)
+      found-bottom r g = g ∙ bottom-same ∙ from-over H 0 (w * h - w) (w * h) (omega arith) (omega arith) ends-clear ∙ all

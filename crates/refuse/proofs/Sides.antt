@@ -1,18 +1,20 @@
 -- What the beginnings of a call's rows hand on. Assumes nothing.
--- Main laws: `sides-in` sides that pass the test are in range, `in-sides` and back; `sized`, `shaped`, `levelled`, `grounded` what a verdict of 0 says of the rows 1; 1 2; 1 2 3; 1 2 3 4, and `of-size` of 1 3.
-use mathlib.Core.Path.{_≡_, refl}
+-- Main laws: `sides-in` sides that pass the test are in range, `in-sides` and back; `sized`, `shaped`, `levelled`, `grounded` what a verdict of 0 says of the rows 1; 1 2; 1 2 3; 1 2 3 4 17 18 19, and `of-size` of 1 3.
+use mathlib.Core.Path.{_≡_, refl, sym, _∙_}
 use mathlib.Core.Bool.{Bool, true, false, not, _&&_}
 use mathlib.Core.List.{List, [], _∷_}
 use Prim.Native.Nat.{ℕ}
 use native.Mathlib.Omega.{arith}
 use lib.Dec.{leb}
-use borrow.Author.Tests.{leb-true, le-leb, eqb-true}
+use borrow.Author.Tests.{leb-true, le-leb, le-ltb, eqb-true, not-false}
 use Rattle.tally.proofs.Test.{and-1, and-2, both}
 use Rattle.matte.specs.Layout.{Layout}
-use Rattle.matte.specs.Picture.{Picture, sideFits, samplesFit, levelsFit, borderFits}
-use Rattle.refuse.specs.Refusal.{verdict, sidesRow, samplesRow, levelsRow, borderRow}
+use Rattle.matte.specs.Picture.{Picture, size, sideFits, samplesFit, levelsFit, borderFits}
+use Rattle.refuse.specs.Refusal.{verdict, sidesRow, samplesRow, levelsRow}
+use Rattle.refuse.specs.Hot.{hot, borderRows}
 use Rattle.refuse.specs.Shape.{Sides, Shaped, Ground, shapeRows, levelRows, groundRows, sizeRows}
 use Rattle.refuse.proofs.Rows.{clean-fit, parted}
+use Rattle.refuse.proofs.Edges.{hot-unfit, cold}
 
 pub sides-in : (w h : ℕ) → (sideFits w && sideFits h) ≡ true → Sides w h
 sides-in w h e =
@@ -49,6 +51,7 @@ levelled L P ks e = let a = parted (shapeRows P) (levelsRow L ks ∷ []) refl e 
 
 pub grounded : (L : Layout) (P : Picture) (ks : List ℕ) → verdict (groundRows L P ks) .number ≡ 0 → Ground P × (levelsFit L ks ≡ true)
 grounded L P ks e =
-    let a = parted (levelRows L P ks) (borderRow P ∷ []) refl e in
+    let a = parted (levelRows L P ks) (borderRows P) refl e in
     let b = levelled L P ks (a .0) in
-    (record { sides = b .0 .sides; whole = b .0 .whole; border = clean-fit 4 (borderFits P) [] (λ z. omega arith) (a .1) .0 }, b .1)
+    let f : borderFits P ≡ true = not-false (borderFits P) (sym (hot-unfit P) ∙ le-ltb (hot P) (size P) (cold P (a .1))) in
+    (record { sides = b .0 .sides; whole = b .0 .whole; border = f }, b .1)

@@ -1,2 +1,4 @@
 pub mod Refusal
+pub mod Hot
 pub mod Shape
+pub mod Ends

@@ -1,6 +1,6 @@
 -- Refusals by their order, and what a call answers and leaves in lent memory. Assumes nothing.
 -- Definitions: `Row` a row of the paper's table: its number, whether it is given, its place; `row`, `rowAt` make one; `verdict` the first row that is given; `answer` the call's answer;
---   `afterwards` what lent memory holds; `sidesRow`, `samplesRow`, `levelsRow`, `borderRow`, `workRow`, `wordsRow`, `roomRow` the rows 1 2 3 4 5 6 9.
+--   `afterwards` what lent memory holds; `sidesRow`, `samplesRow`, `levelsRow`, `workRow`, `wordsRow`, `roomRow` the rows 1 2 3 5 6 9.
 use mathlib.Core.Bool.{Bool, true, false, not, _&&_, cond}
 use mathlib.Core.List.{List, [], _∷_}
 use Prim.Native.Nat.{ℕ, _*_}
@@ -9,7 +9,7 @@ use lib.ListN.{length}
 use Rattle.refuse.specs.declared.Answer.{Answer}
 use Rattle.refuse.specs.declared.Verdict.{Verdict}
 use Rattle.matte.specs.Layout.{Layout}
-use Rattle.matte.specs.Picture.{Picture, sideFits, levelsFit, samplesFit, borderFits, size}
+use Rattle.matte.specs.Picture.{Picture, sideFits, levelsFit, samplesFit, size}
 
 -- one row of the table: its number is given exactly when `given`, with `place` (01, Numbers for a refused call)
 pub record Row : Type 0 where
@@ -51,10 +51,6 @@ samplesRow P = row 2 (not (samplesFit P))
 -- 3: a level is too large, or the list does not ascend strictly
 abbrev pub levelsRow : Layout → List ℕ → Row
 levelsRow L ks = row 3 (not (levelsFit L ks))
-
--- 4: the border is not all one value
-abbrev pub borderRow : Picture → Row
-borderRow P = row 4 (not (borderFits P))
 
 -- 5: fewer work bytes than w·h
 abbrev pub workRow : Picture → List ℕ → Row

@@ -1,12 +1,9 @@
-// The tests behind refusals 1 to 4.
+// The tests behind refusals 1 to 3.
 ghost use mathlib.Core.Path.{_≡_};
 ghost use mathlib.Core.Bool.{Bool, true, false, _&&_};
-ghost use Prim.Native.Nat.{ℕ, _+_, _*_, _≤_, _<_};
-ghost use lib.Dec.{eqb};
-ghost use lib.ListN.{length, getD};
-ghost use Rattle.tally.specs.Tally.{every};
+ghost use Prim.Native.Nat.{_*_, _≤_};
 ghost use Rattle.matte.specs.Layout.{eight};
-ghost use Rattle.matte.specs.Picture.{picture, sideFits, levelsFit, borderFits};
+ghost use Rattle.matte.specs.Picture.{sideFits, levelsFit};
 ghost use Rattle.refuse.specs.Shape.{Sides};
 
 // Both sides are 2 to 2,048.
@@ -51,40 +48,4 @@ pub fn levels_fit(ks: &[u8]) -> bool
         i += 1;
     }
     true
-}
-
-// The `count` samples from `from` on, `step` apart, are all v.
-fn run_same(px: &[u8], from: usize, step: usize, count: usize, v: u8) -> bool
-    requires { ⌜ (length (now px) ≤ 4194304) × (step ≤ 2048) × ((j : ℕ) → j < count → from + j * step < length (now px)) ⌝ }
-    ensures { λ r. ⌜ r ≡ every (λ j. eqb (getD (now (px .entry)) (from + j * step) 0) v) count ⌝ }
-{
-    let mut i = from;
-    let mut j = 0;
-    while j < count {
-        if px[i] != v {
-            return false;
-        }
-        i += step;
-        j += 1;
-    }
-    true
-}
-
-// The border samples all have the value of sample 0.
-pub fn border_fits(w: usize, h: usize, px: &[u8]) -> bool
-    requires { ⌜ (Sides w h) × (length (now px) ≡ w * h) ⌝ }
-    ensures { λ r. ⌜ r ≡ borderFits (picture w h (now (px .entry))) ⌝ }
-{
-    let n = area(w, h);
-    let v = px[0];
-    if !run_same(px, 0, 1, w, v) {
-        return false;
-    }
-    if !run_same(px, n - w, 1, w, v) {
-        return false;
-    }
-    if !run_same(px, 0, w, h, v) {
-        return false;
-    }
-    run_same(px, w - 1, w, h, v)
 }

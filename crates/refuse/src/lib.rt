@@ -1,16 +1,21 @@
 // Refusals: a call's verdict and answer, and the verdicts of the rows that calls begin with.
 mod fit;
+mod hot;
 
 pub use fit::area;
-pub use fit::border_fits;
 pub use fit::levels_fit;
 pub use fit::sides_fit;
+use hot::edge_of;
+use hot::hot_at;
 ghost use mathlib.Core.Path.{_≡_};
 ghost use mathlib.Core.List.{[], _∷_};
+ghost use Prim.Native.Nat.{_*_};
+ghost use lib.ListN.{length};
 ghost use Rattle.matte.specs.Layout.{eight};
 ghost use Rattle.matte.specs.Picture.{picture};
 ghost use Rattle.refuse.specs.Refusal.{rowAt, verdict, answer, sidesRow};
-ghost use Rattle.refuse.specs.Shape.{shapeRows, levelRows, groundRows, sizeRows};
+ghost use Rattle.refuse.specs.Hot.{borderRows};
+ghost use Rattle.refuse.specs.Shape.{Sides, shapeRows, levelRows, groundRows, sizeRows};
 
 // What a call answers: the refusal's number (0 is done) and place, and the words and lines handed over.
 #[repr(C)]
@@ -92,7 +97,25 @@ pub fn level_verdict(w: usize, h: usize, px: &[u8], ks: &[u8]) -> Verdict
     row_verdict(3, !levels_fit(ks), 0)
 }
 
-// 1 2 3 4.
+// 4 17 18 19, of a picture that none of 1 and 2 is given for.
+fn border_verdict(w: usize, h: usize, px: &[u8]) -> Verdict
+    requires { ⌜ (Sides w h) × (length (now px) ≡ w * h) ⌝ }
+    ensures { λ r. ⌜ r ≡ verdict (borderRows (picture w h (now (px .entry)))) ⌝ }
+{
+    let i = hot_at(w, h, px);
+    if i < px.len() {
+        return Verdict {
+            number: edge_of(w, h, i),
+            place: i,
+        };
+    }
+    Verdict {
+        number: 0,
+        place: 0,
+    }
+}
+
+// 1 2 3 4 17 18 19.
 pub fn ground_verdict(w: usize, h: usize, px: &[u8], ks: &[u8]) -> Verdict
     ensures { λ r. ⌜ r ≡ verdict (groundRows eight (picture w h (now (px .entry))) (now (ks .entry))) ⌝ }
 {
@@ -100,7 +123,7 @@ pub fn ground_verdict(w: usize, h: usize, px: &[u8], ks: &[u8]) -> Verdict
     if v.number != 0 {
         return v;
     }
-    row_verdict(4, !border_fits(w, h, px), 0)
+    border_verdict(w, h, px)
 }
 
 // 1 3.

@@ -1,12 +1,12 @@
 -- Where the first stands that passes a test: in a list, among the numbers from i on, and the least of all. Assumes nothing.
 -- Definitions: `Least p m` the least number that passes p, at most m.
 -- Main laws: `first-le`, `first-before` none before it passes, `first-passes` it passes if it is inside, `first-is` where it is from these facts; `from-ge`, `from-le`, `from-before`, `from-passes`,
---   `from-is` the same among numbers; `least-or`, `least`.
-use mathlib.Core.Path.{_≡_}
+--   `from-is` the same among numbers; `from-same` tests that agree find the same, `from-over` the first past numbers that fail, `from-long` one that is found stays the first of more; `least-or`, `least`.
+use mathlib.Core.Path.{_≡_, sym, _∙_}
 use mathlib.Core.Bool.{Bool, true, false}
 use mathlib.Core.List.{List, [], _∷_}
 use mathlib.Core.Logic.{_⊎_, ⊎-elim, inl, inr}
-use Prim.Native.Nat.{ℕ, zero, suc, _+_, _≤_, _<_}
+use Prim.Native.Nat.{ℕ, zero, suc, _+_, _-_, _≤_, _<_}
 use native.Mathlib.Omega.{arith}
 use lib.Dec.{eqb, ltb}
 use lib.ListN.{length, getD}
@@ -116,6 +116,29 @@ from-is p i m n a b q t =
     let h : n < firstFrom p i m = ltb-true _ _ d in
     no (t (omega (arith, from-le p i m))) (from-before p i m n a h))
     (λ d. omega (arith, ltb-false (firstFrom p i m) n e, ltb-false n (firstFrom p i m) d)))
+
+pub from-same : (p q : ℕ → Bool) (i m : ℕ) → ((j : ℕ) → i ≤ j → j < i + m → p j ≡ q j) → firstFrom p i m ≡ firstFrom q i m
+from-same p q i m e =
+    let n = firstFrom q i m in
+    let u : n ≤ i + m = from-le q i m in
+    from-is p i m n (from-ge q i m) u
+    (λ j x y. e j x (omega arith) ∙ from-before q i m j x y)
+    (λ t. e n (from-ge q i m) t ∙ from-passes q i m t)
+
+pub from-over : (p : ℕ → Bool) (b c n : ℕ) → b ≤ c → c ≤ n → ((j : ℕ) → b ≤ j → j < c → p j ≡ false) → firstFrom p c (n - c) ≡ firstFrom p b (n - b)
+from-over p b c n g h q =
+    let r = firstFrom p c (n - c) in
+    let u : c ≤ r = from-ge p c (n - c) in
+    let v : r ≤ c + (n - c) = from-le p c (n - c) in
+    sym
+    (from-is p b (n - b) r (omega arith) (omega arith)
+    (λ j x y. by-test (ltb j c)
+    (λ t. q j x (ltb-true j c t))
+    (λ t. from-before p c (n - c) j (ltb-false j c t) y))
+    (λ t. from-passes p c (n - c) (omega arith)))
+
+pub from-long : (p : ℕ → Bool) (i m n : ℕ) → m ≤ n → firstFrom p i m < i + m → firstFrom p i m ≡ firstFrom p i n
+from-long p i m n h l = sym (from-is p i n (firstFrom p i m) (from-ge p i m) (omega arith) (λ j x y. from-before p i m j x y) (λ t. from-passes p i m l))
 
 -- ---- the least number that passes
 pub record Least (p : ℕ → Bool) (m : ℕ) : Type 0 where

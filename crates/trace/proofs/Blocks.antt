@@ -1,6 +1,6 @@
 -- Blocks of 64 places: which of them hold no fresh place, and the first fresh place in them. Assumes nothing.
 -- Definitions: `Finding` the first fresh place of a block among those looked at.
--- Main laws: `any-more` one test more of many; `find-begin`, `find-go`, `find-end`, `none-in` the search inside a block; `from-over` the first past numbers that fail;
+-- Main laws: `any-more` one test more of many; `find-begin`, `find-go`, `find-end`, `none-in` the search inside a block;
 --   `stale-on` some places more that are not fresh, `stale-next` those of slots that are not live; `or-found`, `or-none`, `or-skip` the first of a run; `or-first` it is the first of all, `or-bare` or none is fresh yet.
 use mathlib.Core.Path.{_≡_, refl, sym, ap, _∙_}
 use mathlib.Core.Bool.{Bool, true, false, not, _&&_, cond}
@@ -13,7 +13,7 @@ use lib.ListN.{getD}
 use borrow.Author.Tests.{eqb-true, eqb-false, leb-false, ltb-true, ltb-false, lt-ltb, le-ltb, ne-eqb, not-true}
 use Rattle.tally.specs.Tally.{one, differ, every, firstFrom}
 use Rattle.tally.proofs.Test.{by-test, no, both, differ-self}
-use Rattle.tally.proofs.First.{from-ge, from-le, from-before, from-passes, from-is}
+use Rattle.tally.proofs.First.{from-before, from-passes, from-is, from-over}
 use Rattle.tally.proofs.Every.{every-more, every-at}
 use Rattle.trace.specs.Trace.{fresh}
 use Rattle.trace.specs.Search.{slot, reach, Bounds, Slots, liveAt, FirstIn, Stale, firstOr}
@@ -105,18 +105,6 @@ module _ (px work : List ℕ) (k a : ℕ) where
       record { most = omega arith; passed = λ i c. not-true _ (every-at (λ j. not (fresh px work k (a + j))) 64 e i c); found = λ d. absurd (omega arith) }
 
 -- ---- over what is passed
-pub from-over : (p : ℕ → Bool) (b c n : ℕ) → b ≤ c → c ≤ n → ((j : ℕ) → b ≤ j → j < c → p j ≡ false) → firstFrom p c (n - c) ≡ firstFrom p b (n - b)
-from-over p b c n g h q =
-    let r = firstFrom p c (n - c) in
-    let u : c ≤ r = from-ge p c (n - c) in
-    let v : r ≤ c + (n - c) = from-le p c (n - c) in
-    sym
-    (from-is p b (n - b) r (omega arith) (omega arith)
-    (λ j x y. by-test (ltb j c)
-    (λ t. q j x (ltb-true j c t))
-    (λ t. from-before p c (n - c) j (ltb-false j c t) y))
-    (λ t. from-passes p c (n - c) (omega arith)))
-
 module _ (px work : List ℕ) (k : ℕ) where
   abbrev F : ℕ → Bool
   F = fresh px work k

@@ -1,30 +1,15 @@
 -- `frame::all_same` meets its contract: no other was met exactly if all have the head. Assumes nothing.
 use mathlib.Core.Path.{_≡_, sym, ap, _∙_}
-use mathlib.Core.Bool.{Bool}
 use Prim.Native.Nat.{ℕ, _+_, _-_, _≤_}
 use native.Mathlib.Omega.{arith}
 use lib.Dec.{eqb}
 use lib.ListN.{getD}
 use borrow.Author.Needs.{needs}
-use borrow.Author.Tests.{eqb-true, eq-eqb}
 use Rattle.tally.specs.Tally.{one, every}
-use Rattle.tally.proofs.Test.{iff, one-pos}
-use Rattle.tally.proofs.Every.{every-at, every-from, every-next, every-none}
+use Rattle.tally.proofs.Every.{every-none, every-others}
 use Rattle.frame.specs.Counts.{headOf}
 use Rattle.frame.proofs.all_same.Statement.{statement}
 use Rattle.frame.proofs.all_same.Tie as tie
-
--- one place more
-other-next : (p : ℕ → Bool) (n j x : ℕ) → eqb n 0 ≡ every p j → x ≡ one (p j) → eqb (n + (1 - x)) 0 ≡ every p (j + 1)
-other-next p n j x e f =
-    iff
-    (λ h.
-    let z : n + (1 - x) ≡ 0 = eqb-true (n + (1 - x)) 0 h in
-    every-next p j (sym e ∙ eq-eqb n 0 (omega arith)) (one-pos (p j) (omega arith)))
-    (λ h.
-    let z : n ≡ 0 = eqb-true n 0 (e ∙ every-from p j (λ i l. every-at p (j + 1) h i (omega arith))) in
-    let y : x ≡ 1 = f ∙ ap one (every-at p (j + 1) h j (omega arith)) in
-    eq-eqb (n + (1 - x)) 0 (omega arith))
 
 abbrev Inv-loop : tie.InvT-loop
 Inv-loop px whole q from count others₀ j₀ others j =
@@ -66,7 +51,7 @@ loop-again c =
     let a = l .before .before .args in (
       omega arith,
       omega arith,
-      other-next (λ k. eqb (headOf (a .whole) (getD (a .px .now) (a .from + k) 0)) (a .q)) _ _ _ (l .loop .inv .2) (c .one-if .ensures .0 ∙ ap (λ (z : ℕ). one (eqb z (a .q))) (c .before .head-of .ensures)),
+      every-others (λ k. eqb (headOf (a .whole) (getD (a .px .now) (a .from + k) 0)) (a .q)) _ _ _ (l .loop .inv .2) (c .one-if .ensures .0 ∙ ap (λ (z : ℕ). one (eqb z (a .q))) (c .before .head-of .ensures)),
     )
 
 returns : tie.Need-returns Inv-loop μ-loop

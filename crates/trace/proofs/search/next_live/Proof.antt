@@ -7,9 +7,9 @@ use lib.Dec.{ltb}
 use borrow.Author.Tests.{ltb-true, ltb-false, not-true, not-false}
 use Rattle.tally.specs.Tally.{every}
 use Rattle.tally.proofs.Test.{by-test}
+use Rattle.tally.proofs.First.{from-over}
 use Rattle.tally.proofs.Every.{every-at}
 use Rattle.trace.specs.Search.{liveAt}
-use Rattle.trace.proofs.Blocks.{from-over}
 use Rattle.trace.proofs.search.next_live.Statement.{statement}
 use Rattle.trace.proofs.search.next_live.Tie as tie
 

@@ -2,11 +2,11 @@
 use mathlib.Core.Path.{refl, ap, _∙_}
 use Prim.Native.Nat.{_+_, _-_, _*_, _/_, _≤_}
 use native.Mathlib.Omega.{arith}
-use Rattle.tally.proofs.First.{from-ge}
+use Rattle.tally.proofs.First.{from-ge, from-over}
 use Rattle.trace.specs.Trace.{fresh}
 use Rattle.trace.specs.Search.{slot, reach, liveAt, Stale}
 use Rattle.trace.proofs.Slots.{reach-up, reach-few, slot-around, slot-next}
-use Rattle.trace.proofs.Blocks.{from-over, stale-on, stale-next, or-found, or-first, or-bare}
+use Rattle.trace.proofs.Blocks.{stale-on, stale-next, or-found, or-first, or-bare}
 use Rattle.trace.proofs.search.search.Statement.{statement}
 use Rattle.trace.proofs.search.search.Tie as tie
 

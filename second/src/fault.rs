@@ -16,8 +16,18 @@ pub enum Fault {
     ColumnsOnly,
     /// Only lines of the same level can be around a line.
     OwnLevelOnly,
-    /// List and tree look for refusal 5 before 4.
+    /// List and tree look for refusal 5 before those of the border.
     RefusalsSwapped,
+    /// A border sample is held against the sample before it, not against the first.
+    UnlikeBefore,
+    /// The last border sample that differs is told, not the first.
+    LastHot,
+    /// A border sample that differs is told without its place.
+    HotWithoutPlace,
+    /// A corner of the border counts as its column.
+    CornerAsColumn,
+    /// The numbers of the left and the right column are exchanged.
+    SidesExchanged,
     /// Room is looked at before words: 9, 15 and 6 before 8.
     RoomBeforeWords,
     /// Membership looks for the line before it looks at the words.
@@ -78,7 +88,7 @@ pub enum Fault {
 
 impl Fault {
     /// Every wrong variant.
-    pub const ALL: [Fault; 35] = [
+    pub const ALL: [Fault; 40] = [
         Fault::SaddleSouthOnly,
         Fault::EqualityRightOnce,
         Fault::EqualityRight,
@@ -86,6 +96,11 @@ impl Fault {
         Fault::ColumnsOnly,
         Fault::OwnLevelOnly,
         Fault::RefusalsSwapped,
+        Fault::UnlikeBefore,
+        Fault::LastHot,
+        Fault::HotWithoutPlace,
+        Fault::CornerAsColumn,
+        Fault::SidesExchanged,
         Fault::RoomBeforeWords,
         Fault::LineBeforeWords,
         Fault::CellLast,

@@ -38,14 +38,14 @@ impl Second {
         Ok(Answer::listed(&list))
     }
 
-    /// Refusals 1 to 5 of list and tree.
+    /// Refusals 1 2 3, of the border, and 5 of list and tree.
     pub(crate) fn list_refusals(&self, picture: Picture, levels: &[u8], work: &[u8]) -> Checked {
         let Picture { w, h, px } = picture;
         refusal::sides(w, h)?;
         self.samples(w, h, px)?;
         refusal::levels(levels)?;
         let swapped = self.wrong(Fault::RefusalsSwapped);
-        in_order(swapped, refusal::border(w, h, px), refuse(5, work.len() < w * h))
+        in_order(swapped, self.border(w, h, px), refuse(5, work.len() < w * h))
     }
 
     /// Refusal 6 of list and tree.

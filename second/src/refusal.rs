@@ -65,15 +65,41 @@ pub fn levels(list: &[u8]) -> Checked {
     refuse(3, list.contains(&255) || !ascends)
 }
 
-/// Refusal 4: all border samples must equal the first sample.
-pub fn border(w: usize, h: usize, px: &[u8]) -> Checked {
-    let row = |y: usize| &px[y * w..(y + 1) * w];
-    let flat = row(0).iter().chain(row(h - 1)).all(|&sample| sample == px[0]);
-    let sides_flat = (0..h).all(|y| row(y)[0] == px[0] && row(y)[w - 1] == px[0]);
-    refuse(4, !(flat && sides_flat))
+/// The border places, row by row: all of the first and the last row, two of every other.
+fn border_places(w: usize, h: usize) -> impl Iterator<Item = usize> {
+    (0..h).flat_map(move |y| {
+        let step = if y == 0 || y == h - 1 { 1 } else { w - 1 };
+        (0..w).step_by(step).map(move |x| y * w + x)
+    })
 }
 
 impl Second {
+    /// Refusals 4, 17, 18 and 19: all border samples must equal the first sample. The place is the first that does not, the
+    /// number says which edge it is on.
+    pub(crate) fn border(&self, w: usize, h: usize, px: &[u8]) -> Checked {
+        let other = |place: &usize| match self.wrong(Fault::UnlikeBefore) {
+            true => *place > 0 && px[*place] != px[*place - 1],
+            false => px[*place] != px[0],
+        };
+        let mut others = border_places(w, h).filter(other);
+        let found = if self.wrong(Fault::LastHot) { others.last() } else { others.next() };
+        let Some(place) = found else {
+            return Ok(());
+        };
+        let told = if self.wrong(Fault::HotWithoutPlace) { 0 } else { place as u64 };
+        refuse_at(self.edge(w, h, place), told, true)
+    }
+
+    /// The number of a border place's edge. A corner counts as its row.
+    fn edge(&self, w: usize, h: usize, place: usize) -> u32 {
+        let (x, y) = (place % w, place / w);
+        let (left, right) = if self.wrong(Fault::SidesExchanged) { (19, 18) } else { (18, 19) };
+        let row = [(y == 0, 4), (y == h - 1, 17)];
+        let column = [(x == 0, left), (x == w - 1, right)];
+        let order = if self.wrong(Fault::CornerAsColumn) { [column, row] } else { [row, column] };
+        order.concat().into_iter().find(|edge| edge.0).expect("a border place").1
+    }
+
     /// Refusal 2.
     pub(crate) fn samples(&self, w: usize, h: usize, px: &[u8]) -> Checked {
         let more_taken = self.wrong(Fault::MoreSamplesTaken) && px.len() > w * h;

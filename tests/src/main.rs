@@ -10,6 +10,7 @@
 //! `suite --layout` prints how the structs that cross to C are laid out.
 
 mod blocks;
+mod borders;
 mod calls;
 mod case;
 mod cells;
@@ -61,10 +62,11 @@ pub struct Group {
     run: fn(&mut Run),
 }
 
-const GROUPS: [Group; 12] = [
+const GROUPS: [Group; 13] = [
     Group { name: "vectors", random: false, heavy: false, run: vectors::group },
     Group { name: "small", random: false, heavy: false, run: small::group },
     Group { name: "refusals", random: true, heavy: false, run: refusals::group },
+    Group { name: "borders", random: true, heavy: false, run: borders::group },
     Group { name: "random", random: true, heavy: false, run: random::group },
     Group { name: "demands", random: true, heavy: false, run: demands::group },
     Group { name: "cells", random: true, heavy: false, run: cells::group },

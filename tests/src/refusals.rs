@@ -20,16 +20,40 @@ struct Table {
     order: &'static [(u32, Spoil)],
 }
 
+/// The numbers of the border's edges. Which of them is given goes by the first sample that differs, not by their order.
+const EDGES: [u32; 4] = [4, 17, 18, 19];
+
 const TABLES: [Table; 9] = [
     Table {
         call: Call::List,
         base: list_base,
-        order: &[(1, sides), (2, samples), (3, levels), (4, border), (5, work), (6, places)],
+        order: &[
+            (1, sides),
+            (2, samples),
+            (3, levels),
+            (4, top),
+            (17, bottom),
+            (18, left),
+            (19, right),
+            (5, work),
+            (6, places),
+        ],
     },
     Table {
         call: Call::Tree,
         base: tree_base,
-        order: &[(1, sides), (2, samples), (3, levels), (4, border), (5, work), (6, places), (7, entries)],
+        order: &[
+            (1, sides),
+            (2, samples),
+            (3, levels),
+            (4, top),
+            (17, bottom),
+            (18, left),
+            (19, right),
+            (5, work),
+            (6, places),
+            (7, entries),
+        ],
     },
     Table { call: Call::Frame, base: frame_base, order: &[(1, sides), (2, samples), (9, sample_room)] },
     Table {
@@ -74,7 +98,8 @@ fn all_of(run: &mut Run, rng: &mut Rng, table: &Table, set: u32) {
     let mut case = (table.base)(rng);
     let chosen = || table.order.iter().enumerate().filter(|(place, _)| set >> place & 1 == 1).map(|(_, spoil)| spoil);
     chosen().collect::<Vec<_>>().into_iter().rev().for_each(|spoil| spoil.1(&mut case, rng));
-    let expected = chosen().next().map_or(0, |spoil| spoil.0);
+    let first = chosen().next().map_or(0, |spoil| spoil.0);
+    let expected = if EDGES.contains(&first) { edge(&case) } else { first };
     if let Some(outcome) = run.check(&case) {
         let said = outcome.number();
         let wrong = said != expected;
@@ -196,11 +221,43 @@ fn level(case: &mut Case, _rng: &mut Rng) {
     case.level = 255;
 }
 
-fn border(case: &mut Case, rng: &mut Rng) {
+/// One sample of the border is another. Sides are at least 3, so every edge has a sample that is no corner.
+fn hot(case: &mut Case, rng: &mut Rng, x: usize, y: usize) {
+    case.px[y * case.w + x] ^= rng.between(1, 255) as u8;
+}
+
+fn top(case: &mut Case, rng: &mut Rng) {
+    let x = rng.below(case.w);
+    hot(case, rng, x, 0);
+}
+
+fn bottom(case: &mut Case, rng: &mut Rng) {
+    let x = rng.below(case.w);
+    hot(case, rng, x, case.h - 1);
+}
+
+fn left(case: &mut Case, rng: &mut Rng) {
+    let y = rng.between(1, case.h - 2);
+    hot(case, rng, 0, y);
+}
+
+fn right(case: &mut Case, rng: &mut Rng) {
+    let y = rng.between(1, case.h - 2);
+    hot(case, rng, case.w - 1, y);
+}
+
+/// The number for the border of a case: that of the edge on which the first sample is that differs from sample 0.
+fn edge(case: &Case) -> u32 {
     let (w, h) = (case.w, case.h);
-    let (x, y) = (rng.below(w), rng.below(h));
-    let place = *rng.one_of(&[0, w - 1, w * h - 1, w * (h - 1), x, y * w, y * w + w - 1, w * (h - 1) + x]);
-    case.px[place] ^= rng.between(1, 255) as u8;
+    let differs = |place: &usize| case.px[*place] != case.px[0];
+    let number = |place: usize| match (place % w, place / w) {
+        (_, 0) => Some(4),
+        (_, y) if y == h - 1 => Some(17),
+        (0, _) => Some(18),
+        (x, _) if x == w - 1 => Some(19),
+        _ => None,
+    };
+    (0..w * h).filter(differs).find_map(number).expect("a border that is not all one value")
 }
 
 fn shorter(room: &mut Room, needed: usize, rng: &mut Rng) {

@@ -9,7 +9,8 @@ use crate::lent::{Fill, Lent, Place, Room};
 use crate::replay;
 use crate::run::Run;
 
-const FILES: [&str; 10] = [
+const FILES: [&str; 11] = [
+    include_str!("../vectors/border.json"),
     include_str!("../vectors/crossing.json"),
     include_str!("../vectors/file.json"),
     include_str!("../vectors/frame.json"),

@@ -71,19 +71,24 @@ fn pictures(desk: &mut Desk, picture: &Picture) {
     desk.holds("too long an input", seen.told(1, &["standard input", "120 samples", "or more", "(refusal 2)"]));
 }
 
-/// A border that is not of one value is told with its first sample that differs.
+/// A border that is not of one value is told with its first sample that differs, and by its edge.
 fn border(desk: &mut Desk, rng: &mut Rng) {
-    for (x, y) in [(7, 0), (11, 0), (0, 4), (11, 5), (0, 9), (6, 9), (11, 9)] {
+    let (top, bottom) = (("top row", 4), ("bottom row", 17));
+    let (left, right) = (("left column", 18), ("right column", 19));
+    let places =
+        [(7, 0, top), (11, 0, top), (0, 4, left), (11, 5, right), (0, 9, bottom), (6, 9, bottom), (11, 9, bottom)];
+    for (x, y, (edge, number)) in places {
         let mut picture = noise(rng, 12, 10);
         for i in (0..120).filter(|i| i / 12 == 0 || i / 12 == 9 || i % 12 == 0 || i % 12 == 11) {
             picture.px[i] = if i < y * 12 + x { 70 } else { 71 };
         }
         desk.put("bad.pgm", &picture.pgm());
-        let place = format!("x {x}, y {y} is 71 where x 0, y 0 is 70");
+        let place = format!("x {x}, y {y} in its {edge} is 71 where x 0, y 0 is 70");
+        let refusal = format!("(refusal {number})");
         for command in [&["list", "bad.pgm", "-o", "out"][..], &["tree", "bad.pgm"], &["pick", "bad.pgm", "1", "1"]] {
-            desk.refuses(&[command, &["--levels", "9"]].concat(), 1, &["bad.pgm", &place, "--frame", "(refusal 4)"]);
+            desk.refuses(&[command, &["--levels", "9"]].concat(), 1, &["bad.pgm", &place, "--frame", &refusal]);
         }
-        desk.refuses(&["svg", "bad.pgm", "--levels", "9", "-o", "out"], 1, &[&place, "(refusal 4)"]);
+        desk.refuses(&["svg", "bad.pgm", "--levels", "9", "-o", "out"], 1, &[&place, &refusal]);
     }
 }
 

@@ -48,19 +48,28 @@ impl Matte {
                 format!("{w} by {h} are {needed} samples, and there are {there}{more}: make the file again")
             }
             3 => return Err(Error::by_call("--levels", answer)),
-            4 => self.border(),
+            4 | 17 | 18 | 19 => self.border(answer),
             _ => return Err(Error::by_call(&self.name, answer)),
         };
         Err(Error::numbered(&self.name, text, answer.number))
     }
 
-    /// Why the border was refused. (The call gives no place with 4; once it does, this is to be taken from there.)
-    fn border(&self) -> String {
-        let (w, h, px) = (self.w, self.h, self.samples());
-        let places = (0..px.len()).map(|i| words::place(i, w));
-        let mut border = places.filter(|&(x, y)| x == 0 || y == 0 || x == w - 1 || y == h - 1);
-        let (x, y) = border.find(|&(x, y)| px[y * w + x] != px[0]).unwrap_or_default();
-        let (value, first) = (px[y * w + x], px[0]);
-        format!("the border must be of one value, and x {x}, y {y} is {value} where x 0, y 0 is {first}: use --frame")
+    /// Why the border was refused: where its first sample is that differs, and on which edge.
+    fn border(&self, answer: &Answer) -> String {
+        let (px, (x, y)) = (self.samples(), words::place(answer.place, self.w));
+        let (edge, value, first) = (edge(answer.number), px[answer.place], px[0]);
+        format!(
+            "the border must be of one value, and x {x}, y {y} in its {edge} is {value} where x 0, y 0 is {first}: clean that edge of the gate and scan again, or use --frame"
+        )
+    }
+}
+
+/// The edge that a refusal of the border names.
+fn edge(number: u32) -> &'static str {
+    match number {
+        4 => "top row",
+        17 => "bottom row",
+        18 => "left column",
+        _ => "right column",
     }
 }

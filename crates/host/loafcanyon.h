@@ -59,7 +59,9 @@ enum loafcanyon_number {
   LOAFCANYON_SIDES = 1,        /* w or h is not 2 to 2,048 */
   LOAFCANYON_SAMPLES = 2,      /* the samples are not w*h, but more or fewer */
   LOAFCANYON_LEVELS = 3,       /* a level is 255, or the levels do not ascend, each above the one before */
-  LOAFCANYON_BORDER = 4,       /* the border samples are not all of one value: loafcanyon_frame makes them so */
+  LOAFCANYON_BORDER_TOP = 4,   /* the border samples are not all of one value, and the first of them, row by row, that differs from
+                                  sample 0 is in the top row; place: its index, which is at x = place % w and y = place / w. Of 4 and
+                                  17 to 19 the one for its edge is given. loafcanyon_frame makes the border one value */
   LOAFCANYON_WORK = 5,         /* fewer than w*h work bytes */
   LOAFCANYON_WORD_PLACES = 6,  /* too few word places; place: how many are needed */
   LOAFCANYON_TREE_PLACES = 7,  /* too few tree places; place: how many are needed */
@@ -72,7 +74,10 @@ enum loafcanyon_number {
   LOAFCANYON_CHECK = 13,       /* a block of the file is damaged; place: the first such block, from 0 */
   LOAFCANYON_LAYOUT = 14,      /* the blocks are whole, and do not make an outline file */
   LOAFCANYON_FILE_ROOM = 15,   /* too little room for the file; place: how many bytes are needed */
-  LOAFCANYON_TOO_MANY = 16     /* more than 16,777,215 words, which is the most that a file holds */
+  LOAFCANYON_TOO_MANY = 16,    /* more than 16,777,215 words, which is the most that a file holds */
+  LOAFCANYON_BORDER_BOTTOM = 17, /* as 4, but in the bottom row; a corner counts as its row */
+  LOAFCANYON_BORDER_LEFT = 18,   /* as 4, but in the left column */
+  LOAFCANYON_BORDER_RIGHT = 19   /* as 4, but in the right column */
 };
 
 #define LOAFCANYON_FILE_WORDS 16777215 /* the most words in one file */
@@ -187,14 +192,15 @@ struct loafcanyon_answer loafcanyon_frame(size_t w, size_t h, const uint8_t *px,
                                           size_t room_count);
 
 /* Lists every outline at the levels: levels in order, lines by their first word, each line from there all the way round.
- * Refuses 1 2 3 4 5 6. Done, the first w*h work bytes are 0. */
+ * Refuses 1 2 3 4 17 18 19 5 6. Done, the first w*h work bytes are 0. */
 struct loafcanyon_answer loafcanyon_list(size_t w, size_t h, const uint8_t *px, size_t px_count,
                                          const uint8_t *levels, size_t level_count, uint8_t *work, size_t work_count,
                                          uint32_t *words, size_t word_count);
 
 /* As loafcanyon_list, and writes the tree entry of each line, in the order of the lines, to places.
- * Refuses 1 2 3 4 5 6 7. It needs half of all horizontal crossings as places, although it writes one a line. 7 is given only once
- * there are enough word places, so its place is known after a second call; or lend half as many places as words, which is enough. */
+ * Refuses 1 2 3 4 17 18 19 5 6 7. It needs half of all horizontal crossings as places, although it writes one a line. 7 is given
+ * only once there are enough word places, so its place is known after a second call; or lend half as many places as words, which is
+ * enough. */
 struct loafcanyon_answer loafcanyon_tree(size_t w, size_t h, const uint8_t *px, size_t px_count,
                                          const uint8_t *levels, size_t level_count, uint8_t *work, size_t work_count,
                                          uint32_t *words, size_t word_count, uint32_t *places, size_t place_count);

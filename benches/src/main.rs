@@ -1,6 +1,7 @@
 //! Times the proved library beside an unproved listing and plain loops, and says which bars are met.
 
 mod bars;
+mod border;
 mod comparison;
 mod desk;
 mod errand;
@@ -41,6 +42,7 @@ fn main() -> ExitCode {
     seen.extend(measure::whole(&pictures::noise(), &[1, 8, 32], pace));
     seen.extend(measure::whole(&pictures::flat(), &[1, 8, 32, 255], pace));
     let framed = measure::framing(&terrain, pace);
+    let refused = border::refusal(pictures::flat(), pace);
     let grown = measure::growth(&terrain, &[256, 512, 1024, 2048], 8, pace);
     report::lists(&seen);
     report::paints(&seen);
@@ -48,9 +50,11 @@ fn main() -> ExitCode {
     report::trees(&seen);
     report::flat(&seen);
     report::framing(&framed);
+    report::refusal(&refused);
     report::growth(&grown);
     report::errand(&errand);
     let mut bars = bars::all(&seen, &framed);
+    bars.push(refused.bar());
     bars.push(errand.bar());
     report::bars(&bars);
     ExitCode::from(!bars.iter().all(bars::Bar::met) as u8)

@@ -26,3 +26,21 @@ pub fn copy(px: &[u8], room: &mut [u8]) {
 pub fn ends(px: &[u8]) -> (u8, u8) {
     px.iter().fold((255, 0), |(least, most), &v| (v.min(least), v.max(most)))
 }
+
+/// One look at the border, row by row: where it first differs from the first sample, or the number of samples.
+pub fn look(w: usize, h: usize, px: &[u8]) -> usize {
+    let (first, last) = (px[0], w * (h - 1));
+    let differs = |&v: &u8| v != first;
+    if let Some(x) = px[..w].iter().position(differs) {
+        return x;
+    }
+    for (y, row) in px[..last].chunks_exact(w).enumerate().skip(1) {
+        if row[0] != first {
+            return y * w;
+        }
+        if row[w - 1] != first {
+            return y * w + w - 1;
+        }
+    }
+    px[last..].iter().position(differs).map_or(px.len(), |x| last + x)
+}

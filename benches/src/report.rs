@@ -1,6 +1,7 @@
 //! The tables.
 
 use crate::bars::Bar;
+use crate::border::Refusal;
 use crate::errand::Errand;
 use crate::measure::{Figures, FileFigures, Framing};
 
@@ -75,6 +76,12 @@ pub fn framing(f: &Framing) {
     println!("\nFraming\n{:<8} {:>9} {:>9} {:>11}", "picture", "ms", "ns/sample", "frame/copy");
     let sample = f.frame * 1e9 / f.samples as f64;
     println!("{:<8} {:>9.2} {sample:>9.2} {:>11.2}", f.picture, f.frame * 1e3, f.ratio());
+}
+
+pub fn refusal(r: &Refusal) {
+    println!("\nRefused for the last corner of the border");
+    println!("{:<8} {:>9} {:>11} {:>12}", "picture", "us", "look, us", "refuse/look");
+    println!("{:<8} {:>9.2} {:>11.2} {:>12.2}", r.picture, r.refuse * 1e6, r.look * 1e6, r.ratio());
 }
 
 pub fn growth(seen: &[Figures]) {

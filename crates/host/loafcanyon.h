@@ -87,6 +87,7 @@ enum loafcanyon_number {
  * An edgel joins two neighbouring samples; (x, y) is its left or top end. Its code is 2*(y*w + x), plus 1 if it is vertical.
  * A word is a crossing: code + level * 2^23, plus 2^31 on the first word of a line.
  * A tree entry is 0 for a line in no other, else the number of the line around it, plus 1; plus 2^31 if the line is of the lower kind.
+ * The samples beside a line and inside it are above its level if it is upper, and not if it is lower, as a hole is.
  * In these functions w is the width that the code was made with, and is not 0.
  */
 static inline uint32_t loafcanyon_word_code(uint32_t word) { return word & 0x7fffffu; }

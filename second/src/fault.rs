@@ -60,10 +60,14 @@ pub enum Fault {
     NoLimit,
     /// The rest of a file's room is cleared.
     RestCleared,
-    /// A line has the kind of a parent of equal level.
-    KindKept,
-    /// The kind of a root is read from the heading of its lead.
-    RootByHeading,
+    /// Every root is upper.
+    RootsUpper,
+    /// A line is lower exactly if its level is below its parent's.
+    KindByLevel,
+    /// Upper and lower are exchanged.
+    KindsExchanged,
+    /// A line has the kind of its parent.
+    KindCopied,
     /// The work bytes are not cleared.
     WorkLeft,
     /// All work bytes are cleared, not just the first w·h.
@@ -88,7 +92,7 @@ pub enum Fault {
 
 impl Fault {
     /// Every wrong variant.
-    pub const ALL: [Fault; 40] = [
+    pub const ALL: [Fault; 42] = [
         Fault::SaddleSouthOnly,
         Fault::EqualityRightOnce,
         Fault::EqualityRight,
@@ -117,8 +121,10 @@ impl Fault {
         Fault::SurplusBlocks,
         Fault::NoLimit,
         Fault::RestCleared,
-        Fault::KindKept,
-        Fault::RootByHeading,
+        Fault::RootsUpper,
+        Fault::KindByLevel,
+        Fault::KindsExchanged,
+        Fault::KindCopied,
         Fault::WorkLeft,
         Fault::WorkAllCleared,
         Fault::WorkLeftWithoutLevels,

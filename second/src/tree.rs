@@ -3,7 +3,7 @@
 use std::cmp::Ordering;
 use std::collections::{BTreeMap, HashMap};
 
-use crate::edgel::{Edgel, Heading, Picture};
+use crate::edgel::{Edgel, Picture};
 use crate::list::{words_of, Line};
 use crate::refusal::{refuse_at, said, Answer};
 use crate::{Fault, Second};
@@ -87,10 +87,7 @@ impl Second {
         // A parent's lead comes before its child's, row by row and left to right.
         for row in rows {
             for (line, parent) in self.parents_on_row(&row, lines) {
-                let lower = match parent {
-                    None => self.root_lower(picture, &lines[line]),
-                    Some(parent) => self.lower(lines, line, parent, &entries),
-                };
+                let lower = self.lower(picture, lines, line, parent, &entries);
                 entries[line] = parent.map_or(0, |parent| parent as u32 + 1) + if lower { LOWER } else { 0 };
             }
         }
@@ -124,19 +121,17 @@ impl Second {
         parents
     }
 
-    /// Is a line with a parent of the lower kind?
-    fn lower(&self, lines: &[Line], line: usize, parent: usize, entries: &[u32]) -> bool {
-        let parent_lower = entries[parent] >= LOWER;
-        match lines[line].level.cmp(&lines[parent].level) {
-            Ordering::Greater => false,
-            Ordering::Less => true,
-            Ordering::Equal => parent_lower == self.wrong(Fault::KindKept),
+    /// Is a line of the lower kind? It is if the left end of its lead is high.
+    fn lower(&self, picture: Picture, lines: &[Line], line: usize, parent: Option<usize>, entries: &[u32]) -> bool {
+        let Line { level, codes } = &lines[line];
+        let lead = Edgel::named(codes[0], picture.w, picture.h).expect("a code of the picture");
+        let lower = picture.high(*level, lead.ends().0);
+        match self.fault {
+            Fault::RootsUpper => lower && parent.is_some(),
+            Fault::KindsExchanged => !lower,
+            Fault::KindByLevel => parent.is_some_and(|parent| *level < lines[parent].level),
+            Fault::KindCopied => parent.map_or(lower, |parent| entries[parent] >= LOWER),
+            _ => lower,
         }
-    }
-
-    /// A root is upper.
-    fn root_lower(&self, picture: Picture, line: &Line) -> bool {
-        let lead = Edgel::named(line.codes[0], picture.w, picture.h).expect("a code of the picture");
-        self.wrong(Fault::RootByHeading) && picture.heading(line.level, lead) == Heading::N
     }
 }

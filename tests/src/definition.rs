@@ -200,17 +200,27 @@ fn parent(picture: &Picture, outlines: &[Outline], line: usize) -> Option<usize>
 
 /// The tree entries by the definition.
 pub fn tree(picture: &Picture, outlines: &[Outline]) -> Vec<u32> {
-    let parents: Vec<Option<usize>> = (0..outlines.len()).map(|line| parent(picture, outlines, line)).collect();
-    (0..outlines.len())
-        .map(|line| parents[line].map_or(0, |m| m as u32 + 1) | lower(&parents, outlines, line))
-        .collect()
+    let lower = |outline: &Outline| if picture.px[outline.codes[0] / 2] > outline.level { FLAG } else { 0 };
+    let entry = |line| parent(picture, outlines, line).map_or(0, |m| m as u32 + 1) | lower(&outlines[line]);
+    (0..outlines.len()).map(entry).collect()
 }
 
-fn lower(parents: &[Option<usize>], outlines: &[Outline], line: usize) -> u32 {
-    let Some(m) = parents[line] else { return 0 };
-    match outlines[line].level.cmp(&outlines[m].level) {
-        Ordering::Greater => 0,
-        Ordering::Less => FLAG,
-        Ordering::Equal => FLAG ^ lower(parents, outlines, m),
+/// The article's comparison with the parent's level gives the kind of every outline with a parent, and that of a root
+/// exactly if the border is not above its level.
+pub fn comparison_agrees(picture: &Picture, outlines: &[Outline], entries: &[u32]) -> Result<(), String> {
+    for (line, &entry) in entries.iter().enumerate() {
+        let level = outlines[line].level;
+        let compared = match (entry % FLAG).checked_sub(1).map(|m| m as usize) {
+            None => FLAG * (picture.px[0] > level) as u32,
+            Some(m) => match level.cmp(&outlines[m].level) {
+                Ordering::Greater => 0,
+                Ordering::Less => FLAG,
+                Ordering::Equal => (entries[m] & FLAG) ^ FLAG,
+            },
+        };
+        if entry & FLAG != compared {
+            return Err(format!("line {line} and its parent are not of the kinds that their levels say"));
+        }
     }
+    Ok(())
 }

@@ -96,7 +96,8 @@ fn tree(calls: &dyn Calls, picture: &Picture, list: &Case, words: &[u32], outlin
     if outcome.entries[..wanted.len()] != wanted {
         return Err(format!("the tree is {wanted:?}, said is {:?}", &outcome.entries[..wanted.len()]));
     }
-    Ok(1)
+    definition::comparison_agrees(picture, outlines, &wanted)?;
+    Ok(2)
 }
 
 /// Some samples of some outlines.

@@ -1,32 +1,33 @@
--- The laws of this crate say something: pictures that have what they ask, with the laws applied to them, and kinds and depths worked out. Assumes nothing.
--- Definitions: `leadKinds`, `depths` the kinds by the leads' headings and the depths of all lines.
--- Main laws: `pair-own`; `kinds-hole`, `kinds-nested`, `depths-nested`; `pair-setting` the pair has what the laws ask; so `pair-falls` its line 0 leads before line 2, `pair-kind` goes by it, `pair-half` the half that
---   is asked for is enough (`half-pair`: it is 4), and `pair-order` two of its crossings are in the order of their fractions; `pair-ranks` the ranks of its leads, and `pair-next` line 2's parent from the rank before.
+-- The laws of this crate say something: pictures that have what they ask, with the laws applied to them, and depths worked out. Assumes nothing.
+-- Definitions: `depths` the depths of all lines.
+-- Main laws: `pair-own`; `depths-nested`; `pair-setting` the pair has what the laws ask; so `pair-falls` its line 0 leads before line 2, `pair-kind` the comparison with it gives line 2's kind, `pair-article` so
+--   does the article's own, `pair-half` the half that is asked for is enough (`half-pair`: it is 4), and `pair-order` two of its crossings are in the order of their fractions; `pair-ranks` the ranks of its leads, and `pair-next` line 2's parent from the rank before.
 use mathlib.Core.Path.{_≡_, refl}
 use mathlib.Core.Bool.{true, false}
 use mathlib.Core.List.{List, [], _∷_, map}
 use Prim.Native.Nat.{ℕ, _*_, _≤_, _<_}
 use native.Mathlib.Omega.{arith}
 use lib.Dec.{ltb}
-use Rattle.tally.specs.Tally.{one, every, sum, count, tally, total, build}
+use Rattle.tally.specs.Tally.{every, sum, count, tally, total, build}
 use Rattle.orbit.specs.Orbit.{orbit, low, leads}
 use Rattle.matte.specs.Layout.{eight}
 use Rattle.matte.specs.Picture.{Picture, borderFits, ascend}
 use Rattle.edgel.specs.Edgel.{edgel, crossed, cut, headingAt}
 use Rattle.cell.specs.Turn.{saddle, leave, next}
-use Rattle.cell.proofs.Witness.{hole, pair}
+use Rattle.cell.proofs.Witness.{pair}
 use Rattle.outline.specs.Line.{line, isLead}
 use Rattle.outline.proofs.Border.{border-fits}
 use Rattle.outline.proofs.Listed.{fits-eight}
 use Rattle.enclosure.specs.Position.{key, onLeft, oddLeft, nearest}
-use Rattle.enclosure.specs.Tree.{leadWords, firsts, lineCount, levelAt, leadAt, around, near, best, parent, kindIn, kind}
+use Rattle.enclosure.specs.Tree.{leadWords, firsts, lineCount, levelAt, leadAt, around, near, best, parent, kind}
+use Rattle.enclosure.specs.Article.{kindIn, article}
 use Rattle.enclosure.specs.Call.{heads, half}
 use Rattle.enclosure.proofs.Witness.{two, nested, three}
 use Rattle.enclosure.proofs.Fraction.{over, den, key-order}
 use Rattle.enclosure.proofs.Lines.{Setting}
 use Rattle.enclosure.proofs.Numbers.{lines-within}
-use Rattle.enclosure.proofs.Entry.{leadPos, falls, kind-child}
-use Rattle.enclosure.proofs.Agree.{upperAt}
+use Rattle.enclosure.proofs.Entry.{leadPos, falls}
+use Rattle.enclosure.proofs.Agree.{kind-child, article-low}
 use Rattle.enclosure.proofs.Depth.{depthBy, depth}
 use Rattle.enclosure.proofs.Rank.{cross, rank}
 use Rattle.enclosure.proofs.Walk.{Came, parent-next}
@@ -37,20 +38,8 @@ pub pair-own : oddLeft pair 256 0 (line pair 0 8) 0 8 ≡ false
 unfolding onLeft tally key line orbit headingAt next leave saddle
 pair-own = refl
 
--- kinds by the leads' headings, 1 for upper, and depths
-abbrev pub leadKinds : Picture → List ℕ → List ℕ
-leadKinds P ks = build (λ n. one (upperAt eight P ks n)) 0 (lineCount eight P ks)
-
 abbrev pub depths : Picture → List ℕ → List ℕ
 depths P ks = build (depth eight P ks) 0 (lineCount eight P ks)
-
-pub kinds-hole : leadKinds hole (0 ∷ []) ≡ 0 ∷ []
-unfolding build levelAt leadAt firsts leadWords line isLead leads low orbit cut edgel crossed headingAt next leave saddle
-kinds-hole = refl
-
-pub kinds-nested : leadKinds nested three ≡ 0 ∷ 1 ∷ 0 ∷ 1 ∷ 0 ∷ []
-unfolding build levelAt leadAt firsts leadWords line isLead leads low orbit cut edgel crossed headingAt next leave saddle
-kinds-nested = refl
 
 pub depths-nested : depths nested three ≡ 0 ∷ 0 ∷ 3 ∷ 1 ∷ 2 ∷ []
 unfolding build depth depthBy parent best around near nearest levelAt leadAt firsts leadWords onLeft tally key line isLead leads low orbit cut edgel crossed headingAt next leave saddle
@@ -81,6 +70,10 @@ pair-falls = falls pair-setting 2 in-list 0 pair-parent
 
 pub pair-kind : kind eight pair two 2 ≡ kindIn (levelAt eight pair two 2) (levelAt eight pair two 0) (kind eight pair two 0)
 pair-kind = kind-child pair-setting 2 in-list 0 pair-parent
+
+pub pair-article : article eight pair two 2 ≡ kind eight pair two 2
+unfolding levelAt firsts leadWords line isLead leads low orbit cut edgel crossed headingAt next leave saddle
+pair-article = article-low pair-setting 2 in-list refl
 
 pub pair-half : 3 ≤ half pair two
 pair-half = omega (arith, lines-within pair-setting, pair-lines)

@@ -1,23 +1,20 @@
--- The tree by the numbers of the lines: a parent's lead comes first, the left neighbour's rule, and the kinds of document 01. Assumes nothing.
+-- The tree by the numbers of the lines: a parent's lead comes first, and the left neighbour's rule. Assumes nothing.
 -- Definitions: `leadPos L P ks n` the position of line n's lead; `straight L P ks m d` line m has on the edgel d the heading of its lead.
 -- Main laws: `parent-line`, `parent-in` the parent of a number is a number of the list; `falls` a parent's lead is before its child's, by row and then exact position, so no chain of parents turns
 --   back; `around-falls` the same of every line around it; `parent-last` no line around it has a later lead than the parent; `neighbour-in`, `neighbour-out`, `neighbour-none` the parent of a
---   line from the crossing next on the left of its lead; `kind-root`, `kind-child` a root is upper, any other line goes by its parent's level and kind.
-use mathlib.Core.Path.{_≡_, sym, ap, _∙_, subst}
+--   line from the crossing next on the left of its lead.
+use mathlib.Core.Path.{_≡_, sym, _∙_, subst}
 use mathlib.Core.Bool.{Bool, true, false, not}
 use mathlib.Core.List.{List}
 use mathlib.Core.Logic.{⊎-elim}
-use Prim.Native.Nat.{ℕ, zero, suc, _-_, _≤_, _<_}
+use Prim.Native.Nat.{ℕ, suc, _≤_, _<_}
 use native.Mathlib.Omega.{arith}
-use lib.Dec.{eqb}
-use borrow.Author.Tests.{eqb-true, eqb-false, eq-eqb, ne-eqb}
 use Rattle.tally.specs.Tally.{differ}
-use Rattle.tally.proofs.Test.{by-test}
 use Rattle.matte.specs.Layout.{Layout}
 use Rattle.matte.specs.Picture.{Picture, high}
 use Rattle.edgel.specs.Edgel.{first}
 use Rattle.enclosure.specs.Position.{key}
-use Rattle.enclosure.specs.Tree.{lineCount, levelAt, leadAt, around, parent, kindIn, kindBy, kind}
+use Rattle.enclosure.specs.Tree.{lineCount, levelAt, leadAt, around, parent}
 use Rattle.enclosure.proofs.Lines.{Setting, Line, leadKey, encloses}
 use Rattle.enclosure.proofs.Sides.{earlier}
 use Rattle.enclosure.proofs.Nearest.{Ahead}
@@ -107,40 +104,3 @@ module _ {L : Layout} {P : Picture} {ks : List ℕ} (S : Setting L P ks) where
 
   pub neighbour-none : (n : ℕ) (a : n < lineCount L P ks) → ((M : Line P ks) (e : ℕ) → Ahead L M e (lineOf S n a) → ⊥) → parent L P ks n ≡ 0
   neighbour-none n a q = is-root S n a (none-root S (lineOf S n a) q)
-
-  -- ---- kinds
-  abbrev lv : ℕ → ℕ
-  lv = levelAt L P ks
-
-  kind-0 : (f n : ℕ) → parent L P ks n ≡ 0 → kindBy L P ks (suc f) n ≡ true
-  unfolding kindBy
-  kind-0 f n e = rw (eq-eqb (up n) 0 e, kindBy)
-
-  kind-s : (f n p : ℕ) → parent L P ks n ≡ suc p → kindBy L P ks (suc f) n ≡ kindIn (lv n) (lv p) (kindBy L P ks f p)
-  unfolding kindBy
-  kind-s f n p e =
-      let s : up n - 1 ≡ p = omega arith in
-      rw (ne-eqb (up n) 0 (omega arith), kindBy, s)
-
-  -- more fuel than the lead's position changes nothing
-  kind-fuel : (f g n : ℕ) → n < lineCount L P ks → leadPos L P ks n < f → leadPos L P ks n < g → kindBy L P ks f n ≡ kindBy L P ks g n
-  kind-fuel zero g n a x y = absurd (omega arith)
-  kind-fuel (suc f) zero n a x y = absurd (omega arith)
-  kind-fuel (suc f) (suc g) n a x y =
-      by-test (eqb (up n) 0)
-      (λ e. let s : up n ≡ 0 = eqb-true (up n) 0 e in kind-0 f n s ∙ sym (kind-0 g n s))
-      (λ e.
-      let p = up n - 1 in
-      let s : up n ≡ suc p = omega (arith, eqb-false (up n) 0 e) in
-      let l = falls n a p s in
-      kind-s f n p s ∙ ap (kindIn (lv n) (lv p)) (kind-fuel f g p (parent-in n a p s) (omega arith) (omega arith)) ∙ sym (kind-s g n p s))
-
-  pub kind-root : (n : ℕ) → parent L P ks n ≡ 0 → kind L P ks n ≡ true
-  unfolding kind
-  kind-root n e = kind-0 (leadPos L P ks n) n e
-
-  pub kind-child : (n : ℕ) → n < lineCount L P ks → (p : ℕ) → parent L P ks n ≡ suc p → kind L P ks n ≡ kindIn (levelAt L P ks n) (levelAt L P ks p) (kind L P ks p)
-  unfolding kind
-  kind-child n a p e =
-      kind-s (leadPos L P ks n) n p e
-      ∙ ap (kindIn (lv n) (lv p)) (kind-fuel (leadPos L P ks n) (suc (leadPos L P ks p)) p (parent-in n a p e) (falls n a p e) (omega arith))

@@ -1,23 +1,22 @@
 -- Kinds of lines: the heading of the lead against the comparison with the parent's level, by the height just outside and just inside a line. Assumes nothing.
--- Definitions: `outOf M`, `inOf M` the height just outside and just inside a line, at its lead; `upper M` the lead's left end is low (request R-2's kind, true for upper).
+-- Definitions: `outOf M`, `inOf M` the height just outside and just inside a line, at its lead; `upper M` the lead's left end is low: its kind, true for upper.
 -- Main laws: `entering` the left neighbour's line is around a line exactly if it has its lead's heading there; `out-in` no listed level lies between a line's outside and its parent's inside;
---   `same-kind` R-2's kind is Algorithm 6's for every line that has a parent; `same-level` a line has its parent's level exactly if their R-2 kinds differ; `root-gap`, `root-kind` a root is upper
---   by R-2 exactly if the border is low at its level.
+--   `same-kind` for every line that has a parent the article's comparison gives the kind; `root-gap`, `root-kind` a root is upper exactly if the border is low at its level.
 use mathlib.Core.Path.{_≡_, refl, sym, ap, _∙_}
 use mathlib.Core.Bool.{Bool, true, false, not, cond}
 use mathlib.Core.List.{List}
 use mathlib.Core.Logic.{⊎-elim}
 use Prim.Native.Nat.{ℕ, zero, suc, _≤_, _<_}
 use native.Mathlib.Omega.{arith}
-use lib.Dec.{eqb, ltb}
-use borrow.Author.Tests.{ltb-true, ltb-false, lt-ltb, le-ltb, eq-eqb, ne-eqb}
+use lib.Dec.{ltb}
+use borrow.Author.Tests.{ltb-true, ltb-false, lt-ltb, le-ltb}
 use Rattle.tally.specs.Tally.{one, differ, count, flat}
 use Rattle.tally.proofs.Test.{by-test, no, differ-false}
 use Rattle.matte.specs.Layout.{Layout}
 use Rattle.matte.specs.Picture.{Picture, high}
 use Rattle.edgel.specs.Edgel.{first}
 use Rattle.outline.specs.Line.{line, lines}
-use Rattle.enclosure.specs.Tree.{kindIn}
+use Rattle.enclosure.specs.Article.{kindIn}
 use Rattle.enclosure.proofs.Order.{key-inj}
 use Rattle.enclosure.proofs.Left.{onward-turn, left-none}
 use Rattle.enclosure.proofs.Lines.{Setting, Line, leadKey, leftOf, encloses, small, lead-cut, lead-pass, key-first, counts, member}
@@ -65,19 +64,6 @@ kinds true false k p a b =
 kinds true true k p a b =
     let l : k < p = ltb-true k p (sym a ∙ lt-ltb k (suc k) (omega arith)) in
     rw (le-ltb p k (omega arith), lt-ltb k p l)
-
--- the levels are equal exactly if the kinds are not
-same-levels : (x y : Bool) (k p : ℕ) → ltb k (cond x (suc k) k) ≡ ltb k (cond y p (suc p)) → ltb p (cond x (suc k) k) ≡ ltb p (cond y p (suc p)) → differ (not x) (not y) ≡ eqb k p
-same-levels false false k p a b = sym (ne-eqb k p (λ z. let l : suc p ≤ k = ltb-false k (suc p) (sym a ∙ le-ltb k k (omega arith)) in omega arith))
-same-levels false true k p a b =
-    let l : p ≤ k = ltb-false k p (sym a ∙ le-ltb k k (omega arith)) in
-    let m : k ≤ p = ltb-false p k (b ∙ le-ltb p p (omega arith)) in
-    sym (eq-eqb k p (omega arith))
-same-levels true false k p a b =
-    let l : k < suc p = ltb-true k (suc p) (sym a ∙ lt-ltb k (suc k) (omega arith)) in
-    let m : p < suc k = ltb-true p (suc k) (b ∙ lt-ltb p (suc p) (omega arith)) in
-    sym (eq-eqb k p (omega arith))
-same-levels true true k p a b = sym (ne-eqb k p (λ z. let l : k < p = ltb-true k p (sym a ∙ lt-ltb k (suc k) (omega arith)) in omega arith))
 
 module _ {L : Layout} {P : Picture} {ks : List ℕ} (S : Setting L P ks) where
   abbrev W : ℕ
@@ -129,11 +115,6 @@ module _ {L : Layout} {P : Picture} {ks : List ℕ} (S : Setting L P ks) where
   pub same-kind : (N M : Line P ks) → Parent L M N → upper N ≡ kindIn (N .lvl) (M .lvl) (upper M)
   same-kind N M X =
       kinds (high P (N .lvl) (first (N .lead))) (high P (M .lvl) (first (M .lead))) (N .lvl) (M .lvl) (out-in N M X (N .lvl) (small S N) (N .listed))
-      (out-in N M X (M .lvl) (small S M) (M .listed))
-
-  pub same-level : (N M : Line P ks) → Parent L M N → differ (upper N) (upper M) ≡ eqb (N .lvl) (M .lvl)
-  same-level N M X =
-      same-levels (high P (N .lvl) (first (N .lead))) (high P (M .lvl) (first (M .lead))) (N .lvl) (M .lvl) (out-in N M X (N .lvl) (small S N) (N .listed))
       (out-in N M X (M .lvl) (small S M) (M .listed))
 
   -- ---- roots

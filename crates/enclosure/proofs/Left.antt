@@ -2,7 +2,7 @@
 -- Definitions: none of its own. A mark M is given by a list that holds each marked code once.
 -- Main laws: `left-marks` the odd count left of a crossing by the mark's side at the edgel's left end and the mark on the edgel itself; `ends` the low and the high end of a crossed horizontal
 --   edgel; `left-below`, `left-above`, `left-level` for a mark of a lower level it is the side of the high end, for a higher one that of the low end, for the same level that of the left end;
---   `low-falls`, `low-rises` the low end's side from the left end's; `onward-same`, `onward-turn` left of two crossings of a row with no word, or with one word, between them; `left-none`.
+--   `east` the right end's side from the left end's, `low-falls`, `low-rises` the low end's; `onward-same`, `onward-turn` left of two crossings of a row with no word, or with one word, between them; `left-none`.
 use mathlib.Core.Path.{_≡_, refl, sym, ap, _∙_}
 use mathlib.Core.Bool.{Bool, true, false, not, _&&_, cond}
 use mathlib.Core.List.{List}
@@ -99,7 +99,7 @@ module _ (P : Picture) (B : Border P) (W j k c : ℕ) (a : j < W) (b : k < W) (f
   marked : oddLeft P W j l k c ≡ differ (I (first c)) (M c && ltb (key P W j c) (key P W k c))
   marked = left-marks P W j k c a b f l M e (omega (arith, flat-col P W k c f o))
 
-  east : I (first c + 1) ≡ differ (I (first c)) (M c)
+  pub east : inside (P .w) M (first c + 1) ≡ differ (inside (P .w) M (first c)) (M c)
   east =
       inside-east (high P k) (bit P k) (P .w) (P .h) (high P k 0) (frame P B k) M (first c) (flat-col P W k c f o)
       ∙ ap (λ (z : ℕ). differ (I (first c)) (M z)) (sym (flat-is c f))

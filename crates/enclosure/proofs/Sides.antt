@@ -1,18 +1,19 @@
 -- Lines around lines: every crossing of a line has the same lines around it as its lead has. Assumes nothing.
 -- Definitions: none of its own.
 -- Main laws: `one-line` lines that share a crossing have one lead; `earlier` (LEAD) a line around another has its lead before the other's, by row and then exact position, so it is not
---   that line itself: `not-self`; `left-some` a crossing that makes a line odd; `sides` a line is left of every crossing of another line or of none: as at the other's lead; `own` a line's own
---   odd or even at one of its crossings says whether the heading there is its lead's.
+--   that line itself: `not-self`; `left-some` a crossing that makes a line odd; `sides` a line is left of every crossing of another line or of none: as at the other's lead; `low-side`,
+--   `high-side` a line's low ends are inside it exactly if its lead's left end is high, its high ends exactly if that is low; `own` a line's own odd or even at one of its crossings says whether
+--   the heading there is its lead's.
 use mathlib.Core.Path.{_≡_, refl, sym, ap, _∙_, subst}
-use mathlib.Core.Bool.{Bool, true, false, _&&_}
+use mathlib.Core.Bool.{Bool, true, false, not, _&&_}
 use mathlib.Core.List.{List}
 use mathlib.Core.Logic.{_≢_}
-use Prim.Native.Nat.{ℕ, _%_, _<_}
+use Prim.Native.Nat.{ℕ, _+_, _%_, _<_}
 use native.Mathlib.Omega.{arith}
 use lib.Dec.{eqb, ltb}
 use borrow.Author.Tests.{ltb-true, ltb-false, eqb-true}
 use Rattle.tally.specs.Tally.{differ, tally}
-use Rattle.tally.proofs.Test.{by-test, and-1, and-2, differ-false}
+use Rattle.tally.proofs.Test.{by-test, and-1, and-2}
 use Rattle.orbit.proofs.On.{on}
 use Rattle.orbit.proofs.Partition.{lead-only}
 use Rattle.matte.specs.Layout.{Layout}
@@ -26,9 +27,9 @@ use Rattle.outline.proofs.Whole.{onLine}
 use Rattle.enclosure.specs.Position.{key, onLeft}
 use Rattle.enclosure.proofs.Lists.{differ-none, tally-some}
 use Rattle.enclosure.proofs.Order.{key-inj}
-use Rattle.enclosure.proofs.Inside.{inside, lowEnd}
+use Rattle.enclosure.proofs.Inside.{inside, lowEnd, highEnd}
 use Rattle.enclosure.proofs.Along.{along-low, along-high}
-use Rattle.enclosure.proofs.Left.{left-below, left-above, left-level, low-falls, low-rises}
+use Rattle.enclosure.proofs.Left.{ends, east, left-below, left-above, left-level, low-falls, low-rises}
 use Rattle.enclosure.proofs.Lines.{Setting, Line, Pass, marks, leadKey, leftOf, encloses, small, lead-cut, lead-pass, pass-cut, key-first, counts, member, kept}
 
 module _ {L : Layout} {P : Picture} {ks : List ℕ} (S : Setting L P ks) where
@@ -148,10 +149,37 @@ module _ {L : Layout} {P : Picture} {ks : List ℕ} (S : Setting L P ks) where
       turn true y e = rw e
       turn false y e = rw e
 
-  pub own : (M : Line P ks) (c : ℕ) → Pass M c → leftOf L M (M .lvl) c ≡ differ (high P (M .lvl) (first c)) (high P (M .lvl) (first (M .lead)))
-  own M c A =
+  -- ---- the side of its low ends and of its high ends: the lead's left end is outside, its right end inside
+  left-out : (M : Line P ks) → I M (first (M .lead)) ≡ false
+  unfolding leftOf
+  left-out M =
+      let Z = lead-pass S M in
+      sym (left-level P B W (M .lvl) (M .lvl) (M .lead) (small S M) (small S M) (Z .flat) (lead-cut S M) (line P (M .lvl) (M .lead)) (marks M) (counts S M) refl) ∙ not-self M M refl
+
+  right-in : (M : Line P ks) → I M (first (M .lead) + 1) ≡ true
+  right-in M =
+      let Z = lead-pass S M in
+      east P B W (M .lvl) (M .lvl) (M .lead) (small S M) (small S M) (Z .flat) (lead-cut S M) (line P (M .lvl) (M .lead)) (marks M) (counts S M)
+      ∙ ap (λ (z : Bool). differ z (marks M (M .lead))) (left-out M)
+      ∙ Z .here
+
+  pub low-side : (M : Line P ks) (c : ℕ) → marks M c ≡ true → inside (P .w) (marks M) (lowEnd (high P (M .lvl)) (P .w) c) ≡ high P (M .lvl) (first (M .lead))
+  low-side M c m =
       let k = M .lvl in
-      let s : differ (high P k (first (M .lead))) (I M (lowEnd (high P k) (P .w) (M .lead))) ≡ false = sym (own-low M (M .lead) (lead-pass S M)) ∙ not-self M M refl in
-      own-low M c A
-      ∙ ap (differ (high P k (first c)))
-      (along-low P B k k (marks M) (kept S M) (omega arith) (M .lead) c (lead-cut S M) (A .here) ∙ sym (differ-false (high P k (first (M .lead))) _ s))
+      let Z = lead-pass S M in
+      along-low P B k k (marks M) (kept S M) (omega arith) (M .lead) c (lead-cut S M) m
+      ∙ by-test (high P k (first (M .lead)))
+      (λ y. ap (I M) (ends P W k (M .lead) (Z .flat) (lead-cut S M) true y .0) ∙ right-in M ∙ sym y)
+      (λ y. ap (I M) (ends P W k (M .lead) (Z .flat) (lead-cut S M) false y .0) ∙ left-out M ∙ sym y)
+
+  pub high-side : (M : Line P ks) (c : ℕ) → marks M c ≡ true → inside (P .w) (marks M) (highEnd (high P (M .lvl)) (P .w) c) ≡ not (high P (M .lvl) (first (M .lead)))
+  high-side M c m =
+      let k = M .lvl in
+      let Z = lead-pass S M in
+      along-high P B k k (marks M) (kept S M) (omega arith) (M .lead) c (lead-cut S M) m
+      ∙ by-test (high P k (first (M .lead)))
+      (λ y. ap (I M) (ends P W k (M .lead) (Z .flat) (lead-cut S M) true y .1) ∙ left-out M ∙ ap not (sym y))
+      (λ y. ap (I M) (ends P W k (M .lead) (Z .flat) (lead-cut S M) false y .1) ∙ right-in M ∙ ap not (sym y))
+
+  pub own : (M : Line P ks) (c : ℕ) → Pass M c → leftOf L M (M .lvl) c ≡ differ (high P (M .lvl) (first c)) (high P (M .lvl) (first (M .lead)))
+  own M c A = own-low M c A ∙ ap (differ (high P (M .lvl) (first c))) (low-side M c (A .here))

@@ -1,8 +1,8 @@
 -- A tree entry as one number: the parent below the flag, the kind in the flag. Assumes nothing.
 -- Definitions: none of its own.
--- Main laws: `lines-few` four times the number of lines fit below the flag, so an entry has room for the kind and for one more mark; `parent-le` a parent's number + 1 is at most the number of
---   lines; `entry-parent`, `entry-kind` what an entry says; `entry-root`, `entry-child` the entry of a root, and of a line from its parent's entry and the two levels;
---   `straight-lead`, `straight-heading`, `upper-heading` the headings that the walk and the kinds ask for.
+-- Main laws: `lines-few` four times the number of lines fit below the flag, so a line's number has room for three marks; `parent-le` a parent's number + 1 is at most the number of lines;
+--   `entry-parent`, `entry-kind` what an entry says; `entry-lower` it says lower exactly if the left end of the lead is high; `straight-lead`, `straight-heading` a crossing with its lead's heading;
+--   `kind-heading` a line is upper exactly if its lead heads S.
 use mathlib.Core.Path.{_≡_, refl, sym, ap, _∙_}
 use mathlib.Core.Bool.{Bool, true, false, not, _&&_}
 use mathlib.Core.List.{List, [], _∷_}
@@ -24,14 +24,13 @@ use Rattle.edgel.specs.Edgel.{first, headingOf, headingAt}
 use Rattle.edgel.specs.Word.{flagged}
 use Rattle.outline.specs.Line.{cutAt}
 use Rattle.cell.proofs.Five.{same}
-use Rattle.enclosure.specs.Tree.{lineCount, levelAt, leadAt, parent, kindIn, kind, entry}
+use Rattle.enclosure.specs.Tree.{lineCount, levelAt, leadAt, parent, kind, entry}
 use Rattle.enclosure.specs.Call.{heads, half}
 use Rattle.enclosure.proofs.Order.{flat-heading}
 use Rattle.enclosure.proofs.Lines.{Setting, lead-cut, pass-cut, lead-pass}
 use Rattle.enclosure.proofs.Tree.{lineOf}
 use Rattle.enclosure.proofs.Numbers.{lines-within}
-use Rattle.enclosure.proofs.Entry.{straight, parent-in, kind-root, kind-child}
-use Rattle.enclosure.proofs.Agree.{upperAt}
+use Rattle.enclosure.proofs.Entry.{straight, parent-in}
 use Rattle.enclosure.proofs.Rank.{On, pass-on}
 
 -- ---- how many levels and crossings there can be
@@ -107,18 +106,9 @@ module _ {L : Layout} {P : Picture} {ks : List ℕ} (S : Setting L P ks) where
       (λ e. rw e (le-leb (flag L) (parent L P ks n + 1 * flag L) (omega arith)))
       (λ e. rw e (lt-leb (flag L) (parent L P ks n + 0 * flag L) (omega (arith, zero-mul (flag L)))))
 
-  pub entry-root : (n : ℕ) → parent L P ks n ≡ 0 → entry L P ks n ≡ 0
-  unfolding entry
-  entry-root n e = rw (e, kind-root S n e) (omega (arith, zero-mul (flag L)))
-
-  pub entry-child : (n : ℕ) → n < lineCount L P ks → (p : ℕ) → parent L P ks n ≡ suc p
-      → entry L P ks n ≡ suc p + one (not (kindIn (levelAt L P ks n) (levelAt L P ks p) (not (flagged L (entry L P ks p))))) * flag L
-  unfolding entry
-  entry-child n a p e =
-      let k : not (flagged L (entry L P ks p)) ≡ kind L P ks p = ap not (entry-kind p (parent-in S n a p e)) ∙ back (kind L P ks p) in
-      ap (λ (z : ℕ). z + one (not (kind L P ks n)) * flag L) e
-      ∙ ap (λ (z : Bool). suc p + one (not z) * flag L) (kind-child S n a p e)
-      ∙ ap (λ (z : Bool). suc p + one (not (kindIn (levelAt L P ks n) (levelAt L P ks p) z)) * flag L) (sym k)
+  pub entry-lower : (n : ℕ) → n < lineCount L P ks → flagged L (entry L P ks n) ≡ high P (levelAt L P ks n) (first (leadAt L P ks n))
+  unfolding kind
+  entry-lower n a = entry-kind n a ∙ back (high P (levelAt L P ks n) (first (leadAt L P ks n)))
     where
       back : (b : Bool) → not (not b) ≡ b
       back true = refl
@@ -155,6 +145,7 @@ module _ {L : Layout} {P : Picture} {ks : List ℕ} (S : Setting L P ks) where
       ∙ ap (λ (z : Heading). same z (headingOf true (high P k (first (leadAt L P ks m))))) (sym h)
       ∙ ap (λ (z : Heading). same (headingAt (high P k) d) z) (sym (lead-heading m (A .number)))
 
-  -- the lead heads S
-  pub upper-heading : (m : ℕ) → m < lineCount L P ks → upperAt L P ks m ≡ same (headingAt (high P (levelAt L P ks m)) (leadAt L P ks m)) South
-  upper-heading m a = south-of (high P (levelAt L P ks m) (first (leadAt L P ks m))) ∙ ap (λ (z : Heading). same z South) (sym (lead-heading m a))
+  -- upper exactly if the lead heads S
+  pub kind-heading : (m : ℕ) → m < lineCount L P ks → kind L P ks m ≡ same (headingAt (high P (levelAt L P ks m)) (leadAt L P ks m)) South
+  unfolding kind
+  kind-heading m a = south-of (high P (levelAt L P ks m) (first (leadAt L P ks m))) ∙ ap (λ (z : Heading). same z South) (sym (lead-heading m a))

@@ -1,3 +1,4 @@
 pub mod Position
 pub mod Tree
+pub mod Article
 pub mod Call

@@ -1,16 +1,17 @@
 -- The enclosure tree by the numbers of the lines. Assumes nothing.
 -- Definitions: `leadWords`, `firsts` the leads of all lines in the list's order, as words without flags; `lineCount`, `levelAt`, `leadAt`, `crossingsAt` line n; `around` one line is around another; `best` the
---   line of a set whose measure is largest; `parent` 0 for a root, else the parent's number + 1; `kind` true for upper; `entry` the tree entry; `entries` all of them.
+--   line of a set whose measure is largest; `parent` 0 for a root, else the parent's number + 1; `kind` true for upper, read from the lead; `entry` the tree entry; `entries` all of them.
 use mathlib.Core.Bool.{Bool, true, false, not, _&&_, cond}
 use mathlib.Core.List.{List, [], _∷_, _++_}
-use Prim.Native.Nat.{ℕ, zero, suc, _+_, _-_, _*_, _/_, _%_}
+use Prim.Native.Nat.{ℕ, zero, suc, _+_, _*_, _/_, _%_}
 use lib.Dec.{eqb, ltb}
 use lib.ListN.{length, getD}
 use Rattle.tally.specs.Tally.{build, one}
 use Rattle.matte.specs.Layout.{Layout, flag}
-use Rattle.matte.specs.Picture.{Picture, size}
+use Rattle.matte.specs.Picture.{Picture, size, high}
+use Rattle.edgel.specs.Edgel.{first}
 use Rattle.outline.specs.Line.{line, isLead}
-use Rattle.enclosure.specs.Position.{key, oddLeft, nearest}
+use Rattle.enclosure.specs.Position.{oddLeft, nearest}
 
 -- base + 2·i for those of the m places i from i on that pass
 unfoldable pub leadWords : (ℕ → Bool) → ℕ → ℕ → ℕ → List ℕ
@@ -26,10 +27,6 @@ measured f (suc m) = f m
 unfoldable pub best : (ℕ → Bool) → (ℕ → ℕ) → ℕ → ℕ
 best p f zero = 0
 best p f (suc n) = let b = best p f n in cond (p n && ltb (measured f b) (f n)) (suc n) b
-
--- Algorithm 6: level above the parent's: upper; below: lower; equal: the opposite of the parent's kind (01, Tree and kind)
-abbrev pub kindIn : ℕ → ℕ → Bool → Bool
-kindIn k p u = cond (ltb p k) true (cond (ltb k p) false (not u))
 
 module _ (L : Layout) (P : Picture) where
   -- levels in order, on each the leads in order (01, Following a line)
@@ -63,17 +60,9 @@ module _ (L : Layout) (P : Picture) where
     unfoldable pub parent : ℕ → ℕ
     parent n = best (λ m. around m n) (λ m. near m n) lineCount
 
-    -- a root is upper, any other line goes by its parent; f is fuel, and the lead's position is enough, since a parent's lead comes before (01, Tree and kind)
-    unfoldable pub kindBy : ℕ → ℕ → Bool
-    kindBy zero n = true
-    kindBy (suc f) n =
-        elim (eqb (parent n) 0) [
-          | true ↦ true
-          | false ↦ let p = parent n - 1 in kindIn (levelAt n) (levelAt p) (kindBy f p)
-        ]
-
+    -- upper where the left end of the lead is low, lower where it is high (02, R-2)
     unfoldable pub kind : ℕ → Bool
-    kind n = kindBy (suc (key P (L .levels) (levelAt n) (leadAt n))) n
+    kind n = not (high P (levelAt n) (first (leadAt n)))
 
     -- the parent, with 2^31 added if the kind is lower (01, Tree and kind)
     unfoldable pub entry : ℕ → ℕ

@@ -11,9 +11,9 @@ use Rattle.piece.specs.Piece.{pieceOf}
 use Rattle.outline.specs.Line.{line, isLead, lines}
 use Rattle.outline.specs.List.{encode, levelWords, listed}
 use Rattle.enclosure.specs.Position.{key, onLeft, nearest}
-use Rattle.enclosure.specs.Tree.{leadWords, best, firsts, levelAt, leadAt, around, near, parent, kindBy, kind, entry}
+use Rattle.enclosure.specs.Tree.{leadWords, best, firsts, levelAt, leadAt, around, near, parent, kind, entry}
 use Rattle.promises.specs.Small.{shown, expected}
 
 pub small-pictures : shown ≡ expected
-unfolding sum build count tally firstFrom pick total orbit low leads ascend hot edgel crossed cut headingAt saddle leave next pieceOf line isLead lines encode levelWords listed key onLeft nearest leadWords best firsts levelAt leadAt around near parent kindBy kind entry
+unfolding sum build count tally firstFrom pick total orbit low leads ascend hot edgel crossed cut headingAt saddle leave next pieceOf line isLead lines encode levelWords listed key onLeft nearest leadWords best firsts levelAt leadAt around near parent kind entry
 small-pictures = refl

@@ -30,6 +30,7 @@ abbrev pub shown : List (List (List ℕ))
 shown =
     lines dot 0
     ∷ lines hole 0
+    ∷ (entries eight hole (0 ∷ []) ∷ [])
     ∷ lines pair 0
     ∷ lines pair 1
     ∷ lines (flat 3 3) 0
@@ -42,11 +43,12 @@ shown =
     ∷ ((frameVerdict eight (flat 2048 2) (replicate 4096 0) .number ∷ frameVerdict eight (flat 2 2048) (replicate 4096 0) .number ∷ frameVerdict eight (flat 2049 2) (replicate 4098 0) .number ∷ frameVerdict eight (flat 2 2049) (replicate 4098 0) .number ∷ []) ∷ [])
     ∷ []
 
--- (a) to (j) (01, Small pictures to hold by proof)
+-- (a) to (j), with the entry of (b)'s line, which is lower (01, Small pictures to hold by proof) (02, R-2)
 abbrev pub expected : List (List (List ℕ))
 expected =
     ((6 ∷ 9 ∷ 8 ∷ 3 ∷ []) ∷ [])
     ∷ ((6 ∷ 3 ∷ 8 ∷ 9 ∷ []) ∷ [])
+    ∷ ((2147483648 ∷ []) ∷ [])
     ∷ ((8 ∷ 11 ∷ 18 ∷ 21 ∷ 20 ∷ 13 ∷ 10 ∷ 3 ∷ []) ∷ [])
     ∷ ((8 ∷ 11 ∷ 10 ∷ 3 ∷ []) ∷ (18 ∷ 21 ∷ 20 ∷ 13 ∷ []) ∷ [])
     ∷ []

@@ -1,14 +1,12 @@
--- Notes and values as one number: what each of their bits says. Assumes nothing.
--- Main laws: `note-line`, `note-straight`, `note-lead`, `note-south` what a note says; `value-parent-is`, `value-south`, `value-lower` what a value says; `plain-value` a value without the bit of the
---   walk.
+-- Notes as one number: what each of their bits says. Assumes nothing.
+-- Main laws: `note-line`, `note-straight`, `note-lead`, `note-lower` what a note says.
 use mathlib.Core.Path.{_≡_}
 use mathlib.Core.Bool.{Bool, true, false}
-use Prim.Native.Nat.{ℕ, _+_, _*_, _/_, _%_, _≤_, _<_}
+use Prim.Native.Nat.{ℕ, _/_, _%_, _<_}
 use native.Mathlib.Omega.{arith}
 use borrow.Author.Tests.{eq-eqb, ne-eqb}
-use Rattle.tally.specs.Tally.{one, odd}
+use Rattle.tally.specs.Tally.{odd}
 use Rattle.tree.specs.Note.{noteOf}
-use Rattle.tree.specs.Value.{valueOf, plain}
 
 is-odd : (x : ℕ) → x % 2 ≡ 1 → odd x ≡ true
 is-odd x h = eq-eqb (x % 2) 1 h
@@ -16,7 +14,6 @@ is-odd x h = eq-eqb (x % 2) 1 h
 not-odd : (x : ℕ) → x % 2 ≡ 0 → odd x ≡ false
 not-odd x h = ne-eqb (x % 2) 1 (λ z. omega arith)
 
--- ---- what a note says
 module _ (n : ℕ) (h : n < 536870912) where
   pub note-line : (s l u : Bool) → noteOf n s l u % 536870912 ≡ n
   note-line true true true = omega arith
@@ -48,39 +45,12 @@ module _ (n : ℕ) (h : n < 536870912) where
   note-lead false false true = not-odd (noteOf n false false true / 1073741824) (omega arith)
   note-lead false false false = not-odd (noteOf n false false false / 1073741824) (omega arith)
 
-  pub note-south : (s l u : Bool) → odd (noteOf n s l u / 2147483648) ≡ u
-  note-south true true true = is-odd (noteOf n true true true / 2147483648) (omega arith)
-  note-south true false true = is-odd (noteOf n true false true / 2147483648) (omega arith)
-  note-south false true true = is-odd (noteOf n false true true / 2147483648) (omega arith)
-  note-south false false true = is-odd (noteOf n false false true / 2147483648) (omega arith)
-  note-south true true false = not-odd (noteOf n true true false / 2147483648) (omega arith)
-  note-south true false false = not-odd (noteOf n true false false / 2147483648) (omega arith)
-  note-south false true false = not-odd (noteOf n false true false / 2147483648) (omega arith)
-  note-south false false false = not-odd (noteOf n false false false / 2147483648) (omega arith)
-
--- ---- what a value says
-module _ (p : ℕ) (h : p ≤ 536870912) where
-  pub value-parent-is : (s l : Bool) → valueOf p s l % 1073741824 ≡ p
-  value-parent-is true true = omega arith
-  value-parent-is true false = omega arith
-  value-parent-is false true = omega arith
-  value-parent-is false false = omega arith
-
-  pub value-south : (s l : Bool) → odd (valueOf p s l / 1073741824) ≡ s
-  value-south true true = is-odd (valueOf p true true / 1073741824) (omega arith)
-  value-south true false = is-odd (valueOf p true false / 1073741824) (omega arith)
-  value-south false true = not-odd (valueOf p false true / 1073741824) (omega arith)
-  value-south false false = not-odd (valueOf p false false / 1073741824) (omega arith)
-
-  pub value-lower : (s l : Bool) → odd (valueOf p s l / 2147483648) ≡ l
-  value-lower true true = is-odd (valueOf p true true / 2147483648) (omega arith)
-  value-lower false true = is-odd (valueOf p false true / 2147483648) (omega arith)
-  value-lower true false = not-odd (valueOf p true false / 2147483648) (omega arith)
-  value-lower false false = not-odd (valueOf p false false / 2147483648) (omega arith)
-
-  pub plain-value : (s l : Bool) → plain (valueOf p s l) ≡ p + one l * 2147483648
-  unfolding plain
-  plain-value true true = omega arith
-  plain-value true false = omega arith
-  plain-value false true = omega arith
-  plain-value false false = omega arith
+  pub note-lower : (s l u : Bool) → odd (noteOf n s l u / 2147483648) ≡ u
+  note-lower true true true = is-odd (noteOf n true true true / 2147483648) (omega arith)
+  note-lower true false true = is-odd (noteOf n true false true / 2147483648) (omega arith)
+  note-lower false true true = is-odd (noteOf n false true true / 2147483648) (omega arith)
+  note-lower false false true = is-odd (noteOf n false false true / 2147483648) (omega arith)
+  note-lower true true false = not-odd (noteOf n true true false / 2147483648) (omega arith)
+  note-lower true false false = not-odd (noteOf n true false false / 2147483648) (omega arith)
+  note-lower false true false = not-odd (noteOf n false true false / 2147483648) (omega arith)
+  note-lower false false false = not-odd (noteOf n false false false / 2147483648) (omega arith)

@@ -1,15 +1,13 @@
 -- The steps of a tree call that is not refused, one after the other, over the lent memory as lists. Assumes nothing.
--- Main laws: `work-wide` there are at least as many work bytes as samples; `collect-ready`, `notes-ready`, `walk-ready`, `strip-ready` what each step finds; `made` what the last one leaves.
+-- Main laws: `work-wide` there are at least as many work bytes as samples; `collect-ready`, `notes-ready`, `walk-ready` what each step finds; `made` what the last one leaves.
 use mathlib.Core.Path.{_≡_, refl, sym, ap, subst, _∙_}
 use mathlib.Core.List.{List, _++_}
-use Prim.Native.Nat.{ℕ, _+_, _-_, _≤_, _<_}
-use native.Mathlib.Nat.{zero-add}
+use Prim.Native.Nat.{ℕ, _+_, _-_, _≤_}
 use native.Mathlib.Omega.{arith}
 use lib.Dec.{leb}
 use lib.ListN.{length, take, drop, getD, replicate, length-append, length-drop, List·getD-append}
 use lib.Seq.{take-at, drop-at, drop-drop}
-use Rattle.tally.specs.Tally.{tally, total, build}
-use Rattle.tally.proofs.Build.{build-length, build-at, build-same}
+use Rattle.tally.specs.Tally.{tally, total}
 use Rattle.refuse.specs.declared.Answer.{Answer}
 use Rattle.refuse.specs.declared.Verdict.{Verdict}
 use Rattle.matte.specs.Layout.{eight}
@@ -20,16 +18,15 @@ use Rattle.outline.specs.List.{listed, listVerdict, listAnswer, listWork, listW
 use Rattle.refuse.specs.Shape.{Ground}
 use Rattle.trace.proofs.Refusals.{Sound, sound}
 use Rattle.trace.proofs.Zeros.{cleared-length, cleared-rest}
-use Rattle.enclosure.specs.Tree.{firsts, lineCount, entry, entries}
+use Rattle.enclosure.specs.Tree.{firsts, lineCount, entries}
 use Rattle.enclosure.specs.Call.{heads, half}
 use Rattle.enclosure.proofs.Lines.{Setting}
 use Rattle.enclosure.proofs.Numbers.{count-flags, lines-within}
 use Rattle.enclosure.proofs.Running.{heads-words}
 use Rattle.tree.specs.Note.{leadsOf, NotesReady}
-use Rattle.tree.specs.Value.{valueFor, plain, WalkReady}
+use Rattle.tree.specs.Walk.{WalkReady}
 use Rattle.tree.specs.Made.{TreeMade}
 use Rattle.tree.proofs.Ranked.{setting-of}
-use Rattle.tree.proofs.Walked.{plain-entry}
 use Rattle.tree.proofs.Flagged.{leads-firsts}
 use Rattle.tree.proofs.Verdicts.{same-verdict}
 
@@ -126,51 +123,25 @@ module _ (P : Picture) (ks work₀ words₀ places₀ : List ℕ) (v : listVerdi
             c words₂ ∙ ap (drop (N - T)) w ∙ sym (c words₁) ∙ ap (drop N) list-is ∙ drop-at l (drop N words₀) N refl
 
         -- ---- the walk
-        module _ (places₂ : List ℕ) (x : places₂ ≡ build (valueFor P ks) 0 n ++ drop n places₁) where
-          values-is : places₂ ≡ build (valueFor P ks) 0 n ++ drop n places₀
-          values-is = x ∙ ap (λ (z : List ℕ). build (valueFor P ks) 0 n ++ z) (ap (drop n) leads-is ∙ drop-at (firsts eight P ks) (drop n places₀) n refl)
+        module _ (places₂ : List ℕ) (x : places₂ ≡ entries eight P ks ++ drop n places₁) where
+          entries-is : places₂ ≡ entries eight P ks ++ drop n places₀
+          entries-is = x ∙ ap (λ (z : List ℕ). entries eight P ks ++ z) (ap (drop n) leads-is ∙ drop-at (firsts eight P ks) (drop n places₀) n refl)
 
-          values-long : length places₂ ≡ length places₀
-          values-long =
-              ap length values-is ∙ omega (arith, length-append (build (valueFor P ks) 0 n) (drop n places₀), build-length (valueFor P ks) 0 n, length-drop n places₀, few)
+          -- ---- the list again, with what the notes left in the work bytes
+          module _ (work₂ : List ℕ) (o : drop (length (P .px)) work₂ ≡ drop (length (P .px)) work₁) (u : length work₂ ≡ length work₁) where
+            again : listVerdict eight P ks work₂ words₂ .number ≡ 0
+            again = ap (λ (z : Verdict). z .number) (same-verdict P ks work₀ words₀ work₂ words₂ (u ∙ work-long) (k ∙ words-long)) ∙ v
 
-          pub strip-ready : a .lines ≤ length places₂
-          strip-ready = omega (arith, lines-is, values-long, few)
-
-          value-at : (i : ℕ) → i < n → getD places₂ i 0 ≡ valueFor P ks i
-          value-at i t =
-              ap (λ (z : List ℕ). getD z i 0) values-is
-              ∙ List·getD-append (build (valueFor P ks) 0 n) (drop n places₀) 0 i (omega (arith, build-length (valueFor P ks) 0 n))
-              ∙ build-at (valueFor P ks) 0 n i t
-              ∙ ap (valueFor P ks) (zero-add i)
-
-          -- ---- the entries
-          module _ (places₃ : List ℕ) (y : places₃ ≡ build (λ i. plain (getD places₂ i 0)) 0 (a .lines) ++ drop (a .lines) places₂) where
-            entries-is : places₃ ≡ entries eight P ks ++ drop n places₀
-            entries-is =
-                y
-                ∙ ap (λ (z : ℕ). build (λ i. plain (getD places₂ i 0)) 0 z ++ drop z places₂) lines-is
-                ∙ ap (λ (z : List ℕ). z ++ drop n places₂)
-                (build-same (λ i. plain (getD places₂ i 0)) (entry eight P ks) 0 n
-                (λ j b t. let s : j < n = omega arith in ap plain (value-at j s) ∙ plain-entry P ks S j s))
-                ∙ ap (λ (z : List ℕ). entries eight P ks ++ z)
-                (ap (drop n) values-is ∙ drop-at (build (valueFor P ks) 0 n) (drop n places₀) n (build-length (valueFor P ks) 0 n))
-
-            -- ---- the list again, with what the notes left in the work bytes
-            module _ (work₂ : List ℕ) (o : drop (length (P .px)) work₂ ≡ drop (length (P .px)) work₁) (u : length work₂ ≡ length work₁) where
-              again : listVerdict eight P ks work₂ words₂ .number ≡ 0
-              again = ap (λ (z : Verdict). z .number) (same-verdict P ks work₀ words₀ work₂ words₂ (u ∙ work-long) (k ∙ words-long)) ∙ v
-
-              pub made : (r : Answer) (work₃ words₃ : List ℕ) → r ≡ listAnswer eight P ks work₂ words₂ → work₃ ≡ listWork eight P ks work₂ words₂
-                  → words₃ ≡ listWords eight P ks work₂ words₂ → TreeMade P ks work₀ words₀ places₀ r work₃ words₃ places₃
-              made r work₃ words₃ i j m =
-                  let y = listVerdict eight P ks work₂ words₂ in
-                  record {
-                    answers = i ∙ done-answer y N (tally (flagged eight) l) again;
-                    work-is =
-                        j
-                        ∙ done-after y work₂ (replicate (size P) 0 ++ drop (size P) work₂) again
-                        ∙ ap (λ (z : List ℕ). replicate (size P) 0 ++ z) (subst (λ (z : ℕ). drop z work₂ ≡ drop z work₁) (G .whole) o ∙ ap (drop (size P)) work-is ∙ cleared-rest (size P) work₀);
-                    words-are = m ∙ done-after y words₂ (l ++ drop N words₂) again ∙ ap (λ (z : List ℕ). l ++ z) rest-is;
-                    places-are = entries-is;
-                  }
+            pub made : (r : Answer) (work₃ words₃ : List ℕ) → r ≡ listAnswer eight P ks work₂ words₂ → work₃ ≡ listWork eight P ks work₂ words₂
+                → words₃ ≡ listWords eight P ks work₂ words₂ → TreeMade P ks work₀ words₀ places₀ r work₃ words₃ places₂
+            made r work₃ words₃ i j m =
+                let y = listVerdict eight P ks work₂ words₂ in
+                record {
+                  answers = i ∙ done-answer y N (tally (flagged eight) l) again;
+                  work-is =
+                      j
+                      ∙ done-after y work₂ (replicate (size P) 0 ++ drop (size P) work₂) again
+                      ∙ ap (λ (z : List ℕ). replicate (size P) 0 ++ z) (subst (λ (z : ℕ). drop z work₂ ≡ drop z work₁) (G .whole) o ∙ ap (drop (size P)) work-is ∙ cleared-rest (size P) work₀);
+                  words-are = m ∙ done-after y words₂ (l ++ drop N words₂) again ∙ ap (λ (z : List ℕ). l ++ z) rest-is;
+                  places-are = entries-is;
+                }

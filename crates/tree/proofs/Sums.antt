@@ -4,12 +4,12 @@
 --   every 8th place, one after the other.
 use mathlib.Core.Path.{_≡_, refl, sym, ap, _∙_}
 use mathlib.Core.Bool.{Bool, true, false, not, Bool·beq}
-use mathlib.Core.List.{List, [], _∷_, _++_}
+use mathlib.Core.List.{List, [], _++_}
 use Prim.Native.Nat.{ℕ, _+_, _-_, _*_, _≤_, _<_}
 use native.Mathlib.Omega.{arith}
 use lib.Dec.{eqb, ltb}
 use lib.ListN.{length, take, drop, getD, length-append, length-drop}
-use lib.Seq.{length-take-le, drop-cons, drop-at}
+use lib.Seq.{length-take-le, drop-at}
 use borrow.Author.Tests.{eqb-true, eqb-false, lt-ltb, le-ltb, ltb-true}
 use Rattle.tally.specs.Tally.{differ, sum, tally}
 use Rattle.tally.proofs.Test.{by-test}
@@ -113,16 +113,3 @@ alike true true = refl
 alike true false = refl
 alike false true = refl
 alike false false = refl
-
--- ---- filling from the front leaves what is behind
-pub not-yet : (f d : List ℕ) (i : ℕ) → i ≤ length f → i < length d → getD (take i f ++ drop i d) i 0 ≡ getD d i 0
-not-yet f d i h l =
-    let s : length (take i f) ≡ i = length-take-le i f h in
-    ap (λ (z : ℕ). getD (take i f ++ drop i d) z 0) (sym s) ∙ seam (take i f) (drop i d) ∙ head d i l
-  where
-    seam : (a b : List ℕ) → getD (a ++ b) (length a) 0 ≡ getD b 0 0
-    seam [] b = refl
-    seam (x ∷ a) b = seam a b
-
-    head : (d : List ℕ) (i : ℕ) → i < length d → getD (drop i d) 0 0 ≡ getD d i 0
-    head d i l = ap (λ (z : List ℕ). getD z 0 0) (drop-cons d i 0 l)

@@ -1,3 +1,3 @@
 pub mod Note
-pub mod Value
+pub mod Walk
 pub mod Made

@@ -46,13 +46,13 @@ rankAt st px k i =
     (gaps st px i + getD st (getD px i 0) 0 - getD st (k + 1) 0)
     (gaps st px i + getD st k 0 - getD st (getD px i 0) 0)
 
--- a line's number; whether the crossing has its lead's heading; whether it is the lead; whether the lead heads S
+-- a line's number; whether the crossing has its lead's heading; whether it is the lead; whether the line is lower
 abbrev pub noteOf : ℕ → Bool → Bool → Bool → ℕ
 noteOf n s l u = n + one s * 536870912 + one l * 1073741824 + one u * 2147483648
 
 -- the note of line n, whose lead is at the place e, for its crossing at the place i
 unfoldable pub noteAt : List ℕ → ℕ → ℕ → ℕ → ℕ → ℕ
-noteAt px k n e i = noteOf n (not (differ (ltb k (getD px i 0)) (ltb k (getD px e 0)))) (eqb i e) (not (ltb k (getD px e 0)))
+noteAt px k n e i = noteOf n (not (differ (ltb k (getD px i 0)) (ltb k (getD px e 0)))) (eqb i e) (ltb k (getD px e 0))
 
 -- a horizontal crossing is noted at its rank
 unfoldable pub noted : List ℕ → List ℕ → ℕ → ℕ → ℕ → List ℕ → ℕ → List ℕ

@@ -13,7 +13,6 @@ use refuse::answered;
 use refuse::row_verdict;
 use trace::lean_lines;
 use trace::list_verdict;
-use walk::strip;
 use walk::walk;
 ghost use mathlib.Core.Path.{_≡_};
 ghost use Prim.Native.Nat.{_≤_, _<_};
@@ -44,7 +43,7 @@ fn tree_verdict(
     row_verdict(7, places.len() < half, half)
 }
 
-// Lists the lines, takes their leads to the tree places, notes all crossings at their ranks in the word places, decides parents and kinds by the ranks, and lists again, which puts the words back and clears the work bytes.
+// Lists the lines, takes their leads to the tree places, notes all crossings at their ranks in the word places, writes the entries by the ranks, and lists again, which puts the words back and clears the work bytes.
 fn make(
     w: usize,
     h: usize,
@@ -62,7 +61,6 @@ fn make(
     collect(words, a.words, places);
     note_all(px, w, h, levels, places, n, work, words);
     walk(px, w, h, levels, words, places);
-    strip(places, n);
     lean_lines(w, h, px, levels, work, words)
 }
 

@@ -22,18 +22,18 @@ ghost use Rattle.enclosure.proofs.Notes.{Noted};
 ghost use Rattle.enclosure.specs.Call.{heads};
 ghost use Rattle.tree.specs.Note.{Rising, Starts, rankAt, noteOf, noteAt, noted, notedAll, noteFor, LineReady, NotesReady};
 
-// A bit of a note, where b.
+// A bit of a note or an entry, where b.
 pub fn bit_if(b: bool, v: u32) -> u32
     ensures { λ r. ⌜ (r ≡ one b * v) × (r ≤ v) ⌝ }
 {
     if b { v } else { 0 }
 }
 
-fn note_word(n: u32, straight: bool, lead: bool, south: bool) -> u32
+fn note_word(n: u32, straight: bool, lead: bool, lower: bool) -> u32
     requires { ⌜ n < 536870912 ⌝ }
-    ensures { λ r. ⌜ r ≡ noteOf n straight lead south ⌝ }
+    ensures { λ r. ⌜ r ≡ noteOf n straight lead lower ⌝ }
 {
-    n + bit_if(straight, 536870912) + bit_if(lead, 1073741824) + bit_if(south, 2147483648)
+    n + bit_if(straight, 536870912) + bit_if(lead, 1073741824) + bit_if(lower, 2147483648)
 }
 
 // The note of line n, whose lead is at e, for its crossing at i.
@@ -43,7 +43,7 @@ fn note_of(px: &[u8], k: u8, n: u32, e: usize, i: usize) -> u32
 {
     let a = k < px[i];
     let b = k < px[e];
-    note_word(n, a == b, i == e, !b)
+    note_word(n, a == b, i == e, b)
 }
 
 // Notes a horizontal crossing at its rank.

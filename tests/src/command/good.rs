@@ -31,12 +31,23 @@ pub fn all(desk: &mut Desk) {
     let flat = Picture { w: 5, h: 4, px: vec![7; 20] };
     desk.put("m.pgm", &flat.pgm());
     outlines(desk, &Expected::of(&flat, &[6, 7]), "6,7", "6,7");
+    island(desk);
     let loose = noise(&mut rng, 40, 30);
     framing(desk, &loose);
     sides(desk, &mut rng);
     standard_streams(desk, &pictures[1]);
     replacing(desk, &pictures[1]);
     helps(desk);
+}
+
+/// A hole in a white matte is lower, what stands in the hole upper.
+fn island(desk: &mut Desk) {
+    let px = vec![9, 9, 9, 9, 9, 9, 0, 0, 0, 9, 9, 0, 9, 0, 9, 9, 0, 0, 0, 9, 9, 9, 9, 9, 9];
+    let picture = Picture { w: 5, h: 5, px };
+    desk.put("m.pgm", &picture.pgm());
+    let seen = desk.run(&["tree", "m.pgm", "--levels", "4"]);
+    desk.holds("tree of a hole with an island", seen.text() == format!("{HEADS}0 4 - D 12 0,1\n1 4 0 U 4 1,2\n"));
+    outlines(desk, &Expected::of(&picture, &[4]), "4", "4");
 }
 
 /// All that is asked of one matte, which stands in m.pgm.

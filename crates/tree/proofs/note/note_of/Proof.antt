@@ -1,9 +1,8 @@
 -- `tree::note::note_of` meets its contract. Assumes nothing.
-use mathlib.Core.Path.{_≡_, refl, sym, ap, _∙_}
-use mathlib.Core.Bool.{Bool, true, false, not}
+use mathlib.Core.Path.{ap, _∙_}
+use mathlib.Core.Bool.{Bool}
 use lib.Dec.{ltb, eqb}
 use lib.ListN.{getD}
-use Rattle.tally.specs.Tally.{differ}
 use Rattle.tree.specs.Note.{noteOf, noteAt}
 use Rattle.tree.proofs.Sums.{alike}
 use borrow.Author.Needs.{needs}
@@ -25,7 +24,7 @@ returns c =
     let a = c .before .before .before .before .args in
     let x = ltb (a .k) (getD (a .px .now) (a .i) 0) in
     let y = ltb (a .k) (getD (a .px .now) (a .e) 0) in
-    c .note-word .ensures ∙ ap (λ (z : Bool). noteOf (a .n) z (eqb (a .i) (a .e)) (not y)) (alike x y)
+    c .note-word .ensures ∙ ap (λ (z : Bool). noteOf (a .n) z (eqb (a .i) (a .e)) y) (alike x y)
 
 pub note-of-spec : {M : Type 1} → statement M
 note-of-spec =

@@ -205,6 +205,20 @@ pub fn tree(picture: &Picture, outlines: &[Outline]) -> Vec<u32> {
     (0..outlines.len()).map(entry).collect()
 }
 
+/// A sample at an end of an outline's crossing and inside the outline is high exactly if the outline is upper.
+pub fn insides_agree(picture: &Picture, outlines: &[Outline], entries: &[u32]) -> Result<(), String> {
+    for (outline, &entry) in outlines.iter().zip(entries) {
+        let inside = odd_left(picture, outline);
+        let beside = outline.codes.iter().filter_map(|&code| ends(picture, code)).flat_map(|(a, b)| [a, b]);
+        for place in beside {
+            if inside[place] != ((picture.px[place] > outline.level) == (entry < FLAG)) {
+                return Err(format!("inside the outline {:?} the place {place} is not of its kind", outline.codes));
+            }
+        }
+    }
+    Ok(())
+}
+
 /// The article's comparison with the parent's level gives the kind of every outline with a parent, and that of a root
 /// exactly if the border is not above its level.
 pub fn comparison_agrees(picture: &Picture, outlines: &[Outline], entries: &[u32]) -> Result<(), String> {

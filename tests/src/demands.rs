@@ -96,8 +96,9 @@ fn tree(calls: &dyn Calls, picture: &Picture, list: &Case, words: &[u32], outlin
     if outcome.entries[..wanted.len()] != wanted {
         return Err(format!("the tree is {wanted:?}, said is {:?}", &outcome.entries[..wanted.len()]));
     }
+    definition::insides_agree(picture, outlines, &wanted)?;
     definition::comparison_agrees(picture, outlines, &wanted)?;
-    Ok(2)
+    Ok(3)
 }
 
 /// Some samples of some outlines.

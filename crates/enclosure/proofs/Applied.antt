@@ -1,25 +1,27 @@
 -- The laws of this crate say something: pictures that have what they ask, with the laws applied to them, and depths worked out. Assumes nothing.
 -- Definitions: `depths` the depths of all lines.
 -- Main laws: `pair-own`; `depths-nested`; `pair-setting` the pair has what the laws ask; so `pair-falls` its line 0 leads before line 2, `pair-kind` the comparison with it gives line 2's kind, `pair-article` so
---   does the article's own, `pair-half` the half that is asked for is enough (`half-pair`: it is 4), and `pair-order` two of its crossings are in the order of their fractions; `pair-ranks` the ranks of its leads, and `pair-next` line 2's parent from the rank before.
+--   does the article's own, `pair-beside` the sample right of its lead is inside and high, `pair-half` the half that is asked for is enough (`half-pair`: it is 4), and `pair-order` two of its crossings are in the order of their fractions; `pair-ranks` the ranks of its leads, and `pair-next` line 2's parent from the rank before.
 use mathlib.Core.Path.{_≡_, refl}
-use mathlib.Core.Bool.{true, false}
+use mathlib.Core.Bool.{true, false, not}
 use mathlib.Core.List.{List, [], _∷_, map}
+use mathlib.Core.Logic.{inr}
 use Prim.Native.Nat.{ℕ, _*_, _≤_, _<_}
 use native.Mathlib.Omega.{arith}
 use lib.Dec.{ltb}
-use Rattle.tally.specs.Tally.{every, sum, count, tally, total, build}
+use Rattle.tally.specs.Tally.{differ, every, sum, count, tally, total, build}
 use Rattle.orbit.specs.Orbit.{orbit, low, leads}
 use Rattle.matte.specs.Layout.{eight}
-use Rattle.matte.specs.Picture.{Picture, borderFits, ascend}
+use Rattle.matte.specs.Picture.{Picture, high, borderFits, ascend}
 use Rattle.edgel.specs.Edgel.{edgel, crossed, cut, headingAt}
+use Rattle.edgel.specs.Beside.{oddWest}
 use Rattle.cell.specs.Turn.{saddle, leave, next}
 use Rattle.cell.proofs.Witness.{pair}
 use Rattle.outline.specs.Line.{line, isLead}
 use Rattle.outline.proofs.Border.{border-fits}
 use Rattle.outline.proofs.Listed.{fits-eight}
 use Rattle.enclosure.specs.Position.{key, onLeft, oddLeft, nearest}
-use Rattle.enclosure.specs.Tree.{leadWords, firsts, lineCount, levelAt, leadAt, around, near, best, parent, kind}
+use Rattle.enclosure.specs.Tree.{leadWords, firsts, lineCount, levelAt, leadAt, crossingsAt, around, near, best, parent, kind}
 use Rattle.enclosure.specs.Article.{kindIn, article}
 use Rattle.enclosure.specs.Call.{heads, half}
 use Rattle.enclosure.proofs.Witness.{two, nested, three}
@@ -28,6 +30,7 @@ use Rattle.enclosure.proofs.Lines.{Setting}
 use Rattle.enclosure.proofs.Numbers.{lines-within}
 use Rattle.enclosure.proofs.Entry.{leadPos, falls}
 use Rattle.enclosure.proofs.Agree.{kind-child, article-low}
+use Rattle.enclosure.proofs.Beside.{beside}
 use Rattle.enclosure.proofs.Depth.{depthBy, depth}
 use Rattle.enclosure.proofs.Rank.{cross, rank}
 use Rattle.enclosure.proofs.Walk.{Came, parent-next}
@@ -74,6 +77,14 @@ pair-kind = kind-child pair-setting 2 in-list 0 pair-parent
 pub pair-article : article eight pair two 2 ≡ kind eight pair two 2
 unfolding levelAt firsts leadWords line isLead leads low orbit cut edgel crossed headingAt next leave saddle
 pair-article = article-low pair-setting 2 in-list refl
+
+-- line 2 has a crossing on code 18, from the sample (1, 2) to the sample (2, 2)
+pair-has : 0 < count 18 (crossingsAt eight pair two 2)
+unfolding count levelAt leadAt firsts leadWords line isLead leads low orbit cut edgel crossed headingAt next leave saddle
+pair-has = omega arith
+
+pub pair-beside : oddWest 4 (crossingsAt eight pair two 2) 2 2 ≡ not (differ (high pair (levelAt eight pair two 2) 10) (kind eight pair two 2))
+pair-beside = beside pair-setting 2 in-list 18 pair-has 2 2 (omega arith) (inr refl)
 
 pub pair-half : 3 ≤ half pair two
 pair-half = omega (arith, lines-within pair-setting, pair-lines)

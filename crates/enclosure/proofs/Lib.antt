@@ -22,6 +22,7 @@ pub mod Gap
 pub mod Kind
 pub mod Entry
 pub mod Agree
+pub mod Beside
 pub mod Depth
 pub mod Rank
 pub mod Last

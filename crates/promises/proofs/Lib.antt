@@ -12,6 +12,7 @@ pub mod DemandThreeWords
 pub mod DemandThreeBorder
 pub mod DoneHolds
 pub mod DemandThreeEach
+pub mod InsideKind
 pub mod Neighbours
 pub mod Positions
 pub mod SaddleDecides

@@ -1,0 +1,5 @@
+pub mod Witness
+pub mod Divisor
+pub mod Twos
+pub mod Reduced
+pub mod Quotient

@@ -135,7 +135,7 @@ struct loafcanyon_answer {
 };
 
 /* heading: 0 to 3 for S, E, N, W, the way that keeps high ground at the left hand. The crossing lies num/den of the way from the
- * edgel's left or top end, not reduced; x and y are where that is. */
+ * edgel's left or top end, in lowest terms; x and y are where that is. */
 struct loafcanyon_crossing_answer {
   struct loafcanyon_answer answer;
   uint32_t heading;

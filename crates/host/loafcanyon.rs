@@ -13,7 +13,7 @@ pub struct Answer {
     pub lines: usize,
 }
 
-/// One crossing: the heading, 0 to 3 for S, E, N, W, its fraction, and where it is.
+/// One crossing: the heading, 0 to 3 for S, E, N, W, its fraction in lowest terms, and where it is.
 #[repr(C)]
 pub struct CrossingAnswer {
     pub answer: Answer,

@@ -16,7 +16,7 @@ pub struct Crossing {
 }
 
 impl Second {
-    /// One crossing: its heading, its exact fraction and its place as floats.
+    /// One crossing: its heading, its exact fraction in lowest terms and its place as floats.
     pub fn crossing(&self, w: usize, h: usize, px: &[u8], level: u8, code: u32) -> Crossing {
         let refused = |answer| Crossing { answer, ..Crossing::default() };
         self.try_crossing(w, h, px, level, code).unwrap_or_else(refused)
@@ -32,9 +32,10 @@ impl Second {
         let edgel = named.unwrap();
         refuse(10, !picture.crossed(k, edgel))?;
         let (num, den) = self.fraction(picture, k, edgel);
-        let along = |end: usize| match self.wrong(Fault::RoundedOnce) {
-            true => (end as f64 * den as f64 + num as f64) / den as f64,
-            false => end as f64 + num as f64 / den as f64,
+        let along = |end: usize| match self.fault {
+            Fault::RoundedOnce => (end as f64 * den as f64 + num as f64) / den as f64,
+            Fault::RoundedParts => end as f64 + (num / 2) as f64 / (den / 2) as f64,
+            _ => end as f64 + num as f64 / den as f64,
         };
         Ok(Crossing {
             answer: Answer::default(),
@@ -46,20 +47,22 @@ impl Second {
         })
     }
 
-    /// How far from its left or top end a crossed edgel is crossed.
+    /// How far from its left or top end a crossed edgel is crossed, in lowest terms.
     pub(crate) fn fraction(&self, picture: Picture, k: u8, edgel: Edgel) -> (u32, u32) {
         let (first, last) = edgel.ends();
         let (a, b) = (picture.at(first) as i64, picture.at(last) as i64);
         let num = (2 * k as i64 + 1 - 2 * a).unsigned_abs() as u32;
         let den = (2 * (a - b).abs()) as u32;
-        match self.wrong(Fault::Reduced) {
-            true => (num / gcd(num, den), den / gcd(num, den)),
-            false => (num, den),
+        let common = gcd(num, den);
+        match self.fault {
+            Fault::Unreduced => (num, den),
+            Fault::OnlyDenReduced => (num, den / common),
+            _ => (num / common, den / common),
         }
     }
 }
 
-/// The greatest common divisor, for the variant that reduces.
+/// The greatest common divisor.
 fn gcd(a: u32, b: u32) -> u32 {
     if b == 0 {
         a

@@ -46,8 +46,12 @@ pub enum Fault {
     CornerOutside,
     /// Coordinates of a crossing are rounded once, not twice.
     RoundedOnce,
-    /// Fractions are reduced.
-    Reduced,
+    /// A crossing's floats are taken from parts that were halved and rounded.
+    RoundedParts,
+    /// Fractions are not reduced. Halves alone would come to the same: num is odd before.
+    Unreduced,
+    /// Fractions are not reduced but for their den.
+    OnlyDenReduced,
     /// The larger of the middle two is the median.
     UpperMedian,
     /// The check leaves out the number of the block.
@@ -92,7 +96,7 @@ pub enum Fault {
 
 impl Fault {
     /// Every wrong variant.
-    pub const ALL: [Fault; 42] = [
+    pub const ALL: [Fault; 44] = [
         Fault::SaddleSouthOnly,
         Fault::EqualityRightOnce,
         Fault::EqualityRight,
@@ -114,7 +118,9 @@ impl Fault {
         Fault::MinusZero,
         Fault::CornerOutside,
         Fault::RoundedOnce,
-        Fault::Reduced,
+        Fault::RoundedParts,
+        Fault::Unreduced,
+        Fault::OnlyDenReduced,
         Fault::UpperMedian,
         Fault::CheckWithoutBlock,
         Fault::LooseZeros,

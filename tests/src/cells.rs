@@ -79,13 +79,21 @@ fn crossing(run: &mut Run, met: &mut Met, case: &Case) {
     }
     if said.answer.number == 0 {
         met.headings[said.heading as usize % 4] += 1;
-        // The surface has the level's height at num/den of the way.
+        // The surface has the level's height at num/den of the way, and no smaller numbers say so.
         let first = case.code as usize / 2;
         let last = first + if case.code % 2 == 1 { w } else { 1 };
         let (a, b) = (px[first] as i64, px[last] as i64);
         let (num, den) = (said.num as i64, said.den as i64);
-        let exact = 2 * (a * den + (b - a) * num) == (2 * case.level as i64 + 1) * den && den == 2 * (a - b).abs();
+        let exact = 2 * (a * den + (b - a) * num) == (2 * case.level as i64 + 1) * den;
         run.direct(case, (!exact).then(|| "the fraction misses the level".to_string()));
+        let common = (2..=num.min(den - num)).find(|d| num % d == 0 && den % d == 0);
+        run.direct(case, common.map(|d| format!("{d} divides both parts of the fraction")));
+        // The floats are those of the fraction that is not reduced.
+        let part = (2 * case.level as i64 + 1 - 2 * a).abs() as f64 / (2 * (a - b).abs()) as f64;
+        let (x, y) = ((first % w) as f64, (first / w) as f64);
+        let (x, y) = if case.code % 2 == 1 { (x, y + part) } else { (x + part, y) };
+        let as_before = said.x.to_bits() == x.to_bits() && said.y.to_bits() == y.to_bits();
+        run.direct(case, (!as_before).then(|| "the floats are not those before reducing".to_string()));
     }
 }
 

@@ -9,7 +9,7 @@ use crate::lent::{Fill, Lent, Place, Room};
 use crate::replay;
 use crate::run::Run;
 
-const FILES: [&str; 12] = [
+const FILES: [&str; 13] = [
     include_str!("../vectors/border.json"),
     include_str!("../vectors/crossing.json"),
     include_str!("../vectors/file.json"),
@@ -22,6 +22,7 @@ const FILES: [&str; 12] = [
     include_str!("../vectors/piece.json"),
     include_str!("../vectors/tree.json"),
     include_str!("../vectors/R-02.json"),
+    include_str!("../vectors/R-05.json"),
 ];
 
 pub fn group(run: &mut Run) {

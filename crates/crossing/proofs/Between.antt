@@ -1,9 +1,9 @@
 -- A crossing lies strictly between the ends of its edgel. Assumes nothing.
--- Main laws: `between` on a crossed edgel 0 < num and num < den; `height` there the surface is half a step above the level; `done-between`, `done-height` so in every answer that is not refused.
-use mathlib.Core.Path.{_≡_, refl, sym, ap, _∙_}
+-- Main laws: `between` on a crossed edgel 0 < num and num < den, in lowest terms; `height` there the surface is half a step above the level; `done-between`, `done-height` so in every answer that is not refused.
+use mathlib.Core.Path.{_≡_, refl, sym, ap, ap₂, _∙_}
 use mathlib.Core.Bool.{true}
 use Prim.Native.Nat.{ℕ, _+_, _-_, _*_, _≤_, _<_}
-use native.Mathlib.Nat.{mul-comm, mul-assoc, mul-left-comm, mul-add, add-mul}
+use native.Mathlib.Nat.{mul-zero, mul-comm, mul-assoc, mul-left-comm, mul-add, add-mul, lt-of-mul-lt-mul-left, eq-of-mul-eq-mul-left}
 use native.Mathlib.Omega.{arith}
 use lib.Dec.{ltb}
 use borrow.Author.Tests.{ltb-true, ltb-false, not-true}
@@ -12,7 +12,8 @@ use Rattle.tally.proofs.Test.{by-test}
 use Rattle.matte.specs.Layout.{eight}
 use Rattle.matte.specs.Picture.{Picture, at, high}
 use Rattle.edgel.specs.Edgel.{first, second, crossed}
-use Rattle.crossing.specs.Crossing.{num, den, crossingVerdict}
+use Rattle.crossing.specs.Crossing.{gap, span, num, den, crossingVerdict}
+use Rattle.crossing.proofs.Lowest.{common, common-pos, num-back, den-back}
 use Rattle.crossing.proofs.Told.{fine}
 
 numbers : (k a b : ℕ) → differ (ltb k a) (ltb k b) ≡ true → (0 < apart (2 * k + 1) (2 * a)) × (apart (2 * k + 1) (2 * a) < 2 * apart a b)
@@ -58,20 +59,45 @@ halfway k a b r d z =
     let s : apart (2 * k + 1) (2 * a) + 2 * a ≡ 2 * k + 1 = omega arith in
     rw (g, s) at (weighed a (apart a b) (apart (2 * k + 1) (2 * a)) r z))
 
--- the mean of the two ends, weighed by what is left and what is gone of the way, is k + ½ (01, Picture, levels, edgels)
-pub height : (P : Picture) (k c r : ℕ) →
-    crossed (high P k) (P .w) c ≡ true → num P k c + r ≡ den P k c → 2 * (at P (first c) * r + at P (second (P .w) c) * num P k c) ≡ (2 * k + 1) * den P k c
-unfolding crossed num den
-height P k c r e z = halfway k (at P (first c)) (at P (second (P .w) c)) r e z
+-- a factor g of both weights and of their sum goes out
+lowered : (g a b r n d m s t : ℕ) → 0 < g → g * n ≡ m → g * d ≡ s → 2 * (a * (g * r) + b * m) ≡ t * s → 2 * (a * r + b * n) ≡ t * d
+lowered g a b r n d m s t p en ed h =
+    eq-of-mul-eq-mul-left g p _ _
+    (mul-left-comm g 2 (a * r + b * n)
+    ∙ ap (λ (x : ℕ). 2 * x) (mul-add g (a * r) (b * n) ∙ ap₂ (λ (x y : ℕ). x + y) (mul-left-comm g a r) (mul-left-comm g b n ∙ ap (λ (x : ℕ). b * x) en))
+    ∙ h
+    ∙ ap (λ (x : ℕ). t * x) (sym ed)
+    ∙ mul-left-comm t g d)
 
--- (01, Picture, levels, edgels)
-pub between : (P : Picture) (k c : ℕ) → crossed (high P k) (P .w) c ≡ true → (0 < num P k c) × (num P k c < den P k c)
-unfolding crossed num den
-between P k c e = numbers k (at P (first c)) (at P (second (P .w) c)) e
+-- ---- the fraction in lowest terms: gap = g·num and span = g·den
+module _ (P : Picture) (k c : ℕ) (e : crossed (high P k) (P .w) c ≡ true) where
+  pub gap-span : (0 < gap P k c) × (gap P k c < span P k c)
+  unfolding crossed gap span
+  gap-span = numbers k (at P (first c)) (at P (second (P .w) c)) e
+
+  gap-height : (r : ℕ) → gap P k c + r ≡ span P k c → 2 * (at P (first c) * r + at P (second (P .w) c) * gap P k c) ≡ (2 * k + 1) * span P k c
+  unfolding crossed gap span
+  gap-height r z = halfway k (at P (first c)) (at P (second (P .w) c)) r e z
+
+  -- (01, Picture, levels, edgels) (02, R-5)
+  pub between : (0 < num P k c) × (num P k c < den P k c)
+  between =
+      let g = common P k c in
+      let n : g * num P k c ≡ gap P k c = num-back P k c in
+      let d : g * den P k c ≡ span P k c = den-back P k c in
+      let s = gap-span in
+      (lt-of-mul-lt-mul-left g {m = 0} (omega (arith, mul-zero g)), lt-of-mul-lt-mul-left g (omega arith))
+
+  -- the mean of the two ends, weighed by what is left and what is gone of the way, is k + ½ (01, Picture, levels, edgels) (02, R-5)
+  pub height : (r : ℕ) → num P k c + r ≡ den P k c → 2 * (at P (first c) * r + at P (second (P .w) c) * num P k c) ≡ (2 * k + 1) * den P k c
+  height r z =
+      let g = common P k c in
+      let t : gap P k c + g * r ≡ span P k c = ap (λ (x : ℕ). x + g * r) (sym (num-back P k c)) ∙ sym (mul-add g (num P k c) r) ∙ ap (λ (x : ℕ). g * x) z ∙ den-back P k c in
+      lowered g (at P (first c)) (at P (second (P .w) c)) r (num P k c) (den P k c) (gap P k c) (span P k c) (2 * k + 1) (common-pos P k c) (num-back P k c) (den-back P k c) (gap-height (g * r) t)
 
 pub done-between : (P : Picture) (k c : ℕ) → crossingVerdict eight P k c .number ≡ 0 → (0 < num P k c) × (num P k c < den P k c)
 done-between P k c z = between P k c (fine P k c (crossingVerdict eight P k c) refl z .cut)
 
 pub done-height : (P : Picture) (k c r : ℕ) →
     crossingVerdict eight P k c .number ≡ 0 → num P k c + r ≡ den P k c → 2 * (at P (first c) * r + at P (second (P .w) c) * num P k c) ≡ (2 * k + 1) * den P k c
-done-height P k c r z = height P k c r (fine P k c (crossingVerdict eight P k c) refl z .cut)
+done-height P k c r z = height P k c (fine P k c (crossingVerdict eight P k c) refl z .cut) r

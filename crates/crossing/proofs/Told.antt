@@ -1,12 +1,12 @@
 -- The crossing call's refusals and its answer, from plain facts. Assumes nothing.
 -- Definitions: `Fine` what a call that is not refused may rely on.
--- Main laws: `fine` what verdict 0 says; `crossed-is`, `den-is`, `num-is`, `heading-is`, `x-is`, `y-is` what the code reads is what the definitions say; `refused-is`, `done-is` the answer.
+-- Main laws: `fine` what verdict 0 says; `crossed-is`, `passage-is` what the code reads is what the definitions say; `refused-is`, `done-is` the answer.
 use mathlib.Core.Path.{_≡_, refl, sym, ap, _∙_}
 use mathlib.Core.Bool.{Bool, true, false, not, cond}
 use mathlib.Core.List.{List, [], _∷_}
 use Prim.Native.Nat.{ℕ, _+_, _*_}
 use native.Mathlib.Omega.{arith}
-use lib.Dec.{eqb}
+use lib.Dec.{eqb, ltb}
 use lib.Ieee.{Float}
 use lib.ListN.{length}
 use borrow.Author.Tests.{eq-eqb, ne-eqb}
@@ -17,6 +17,9 @@ use Rattle.matte.specs.Layout.{eight}
 use Rattle.matte.specs.Picture.{Picture, at, high}
 use Rattle.refuse.specs.Refusal.{Row, row, answer}
 use Rattle.refuse.proofs.Rows.{clean-fit, parted}
+use Rattle.ratio.specs.declared.Fraction.{Fraction}
+use Rattle.ratio.specs.Lowest.{lowest}
+use Rattle.edgel.specs.declared.Heading.{Heading}
 use Rattle.edgel.specs.Heading.{number}
 use Rattle.edgel.specs.Edgel.{horizontal, first, second, column, edgel, crossed, headingOf, headingAt}
 use Rattle.edgel.specs.Edgel as Edgel
@@ -24,7 +27,8 @@ use Rattle.words.specs.Fit.{codeRow}
 use Rattle.refuse.specs.Shape.{Sides, levelRows}
 use Rattle.refuse.proofs.Sides.{levelled}
 use Rattle.crossing.specs.declared.Crossing.{Crossing}
-use Rattle.crossing.specs.Crossing.{whole, along, num, den, pointX, pointY, crossingVerdict, crossingAnswer}
+use Rattle.crossing.specs.declared.Passage.{Passage}
+use Rattle.crossing.specs.Crossing.{whole, along, gap, span, num, den, passage, pointX, pointY, crossingVerdict, crossingAnswer}
 
 pub record Fine (P : Picture) (k c : ℕ) : Type 0 where
   pub sides : Sides (P .w) (P .h)
@@ -49,27 +53,14 @@ module _ (P : Picture) (k c : ℕ) where
     unfolding crossed
     crossed-is = ap (λ (i : ℕ). differ (high P k (first c)) (high P k i)) s
 
-    pub den-is : 2 * apart (at P (first c)) (at P j) ≡ den P k c
-    unfolding den
-    den-is = ap (λ (i : ℕ). 2 * apart (at P (first c)) (at P i)) s
-
-  pub num-is : apart (2 * k + 1) (2 * at P (first c)) ≡ num P k c
-  unfolding num
-  num-is = refl
-
-  pub heading-is : number (headingOf (horizontal c) (high P k (first c))) ≡ number (headingAt (high P k) c)
-  unfolding headingAt
-  heading-is = refl
-
-  pub x-is : (n d : ℕ) → n ≡ num P k c → d ≡ den P k c → cond (horizontal c) (along (column (P .w) c) n d) (whole (column (P .w) c)) ≡ pointX P k c
-  x-is n d p q = rw (p, q)
+  pub passage-is : (a j b m n : ℕ) (f : Fraction) (g : Heading) → a ≡ at P (first c) → j ≡ second (P .w) c → b ≡ at P j → m ≡ apart (2 * k + 1) (2 * a) → n ≡ 2 * apart a b → f ≡ lowest m n
+      → g ≡ headingOf (horizontal c) (ltb k a) → _≡_ {A = Passage} (record { heading = g; num = f .num; den = f .den }) (passage P k c)
+  unfolding gap span num den headingAt
+  passage-is a j b m n f g ea ej eb em en ef eg = rw (eg, ef, em, en, eb, ej, ea)
 
   other-way : (b : Bool) (f g : Float) → cond (not b) f g ≡ cond b g f
   other-way true f g = refl
   other-way false f g = refl
-
-  pub y-is : (n d : ℕ) → n ≡ num P k c → d ≡ den P k c → cond (not (horizontal c)) (along (Edgel.row (P .w) c) n d) (whole (Edgel.row (P .w) c)) ≡ pointY P k c
-  y-is n d p q = rw (p, q) (other-way (horizontal c) _ _)
 
   -- ---- the answer
   abbrev made : Bool → Verdict → Crossing
@@ -89,7 +80,9 @@ module _ (P : Picture) (k c : ℕ) where
     refused-is z f g p q =
         rw (p, q, w) (ap (λ (b : Bool). made b v) (sym (ne-eqb (v .number) 0 z)) ∙ ap (λ (u : Verdict). made (eqb (u .number) 0) u) e)
 
-    pub done-is : v .number ≡ 0 → (o n d : ℕ) (f g : Float) → o ≡ number (headingAt (high P k) c) → n ≡ num P k c → d ≡ den P k c → f ≡ pointX P k c → g ≡ pointY P k c
-        → _≡_ {A = Crossing} (record { answer = r; heading = o; num = n; den = d; x = f; y = g }) (crossingAnswer eight P k c)
-    done-is z o n d f g a b s p q =
-        rw (a, b, s, p, q, w) (ap (λ (t : Bool). made t v) (sym (eq-eqb (v .number) 0 z)) ∙ ap (λ (u : Verdict). made (eqb (u .number) 0) u) e)
+    pub done-is : v .number ≡ 0 → (t : Passage) (o : ℕ) (f g : Float) → t ≡ passage P k c → o ≡ number (t .heading)
+        → f ≡ cond (horizontal c) (along (column (P .w) c) (t .num) (t .den)) (whole (column (P .w) c))
+        → g ≡ cond (not (horizontal c)) (along (Edgel.row (P .w) c) (t .num) (t .den)) (whole (Edgel.row (P .w) c))
+        → _≡_ {A = Crossing} (record { answer = r; heading = o; num = t .num; den = t .den; x = f; y = g }) (crossingAnswer eight P k c)
+    done-is z t o f g a b p q =
+        rw (b, p, q, other-way (horizontal c), a, w) (ap (λ (t : Bool). made t v) (sym (eq-eqb (v .number) 0 z)) ∙ ap (λ (u : Verdict). made (eqb (u .number) 0) u) e)

@@ -1,5 +1,6 @@
 -- One crossing: its exact fraction, its point as floats, and the call. Assumes nothing.
--- Definitions: `num`, `den` the fraction of the way; `along` a coordinate moved by it; `crossingRows`, `crossingVerdict`, `crossingAnswer` the call.
+-- Definitions: `gap`, `span` how far the level is from the left or top sample, and the other sample, doubled; `num`, `den` the fraction of the way in lowest terms; `passage` heading and fraction;
+--   `along` a coordinate moved by it, `pointX`, `pointY` the point; `crossingRows`, `crossingVerdict`, `crossingAnswer` the call.
 use mathlib.Core.Bool.{Bool, true, false, not, cond}
 use mathlib.Core.List.{List, [], _∷_, _++_}
 use Prim.Native.Nat.{ℕ, _+_, _*_, _/_, _%_}
@@ -15,7 +16,9 @@ use Rattle.edgel.specs.Heading.{number}
 use Rattle.edgel.specs.Edgel.{horizontal, first, second, column, crossed, headingAt}
 use Rattle.edgel.specs.Edgel as Edgel
 use Rattle.words.specs.Fit.{codeRow}
+use Rattle.ratio.specs.Lowest.{lowest}
 use Rattle.crossing.specs.declared.Crossing.{Crossing}
+use Rattle.crossing.specs.declared.Passage.{Passage}
 
 -- a whole number as a float
 abbrev pub whole : ℕ → Float
@@ -26,13 +29,24 @@ unfoldable pub along : ℕ → ℕ → ℕ → Float
 along n a b = add binary64 (whole n) (div binary64 (whole a) (whole b))
 
 module _ (P : Picture) (k c : ℕ) where
-  -- num = |2k + 1 − 2·the left or top sample| (01, Picture, levels, edgels)
-  unfoldable pub num : ℕ
-  num = apart (2 * k + 1) (2 * at P (first c))
+  -- |2k + 1 − 2·the left or top sample| (01, Picture, levels, edgels)
+  unfoldable pub gap : ℕ
+  gap = apart (2 * k + 1) (2 * at P (first c))
 
-  -- den = 2·|difference of the ends|, not reduced (01, Picture, levels, edgels)
+  -- 2·|difference of the ends| (01, Picture, levels, edgels)
+  unfoldable pub span : ℕ
+  span = 2 * apart (at P (first c)) (at P (second (P .w) c))
+
+  -- num/den is gap/span in lowest terms (02, R-5)
+  unfoldable pub num : ℕ
+  num = lowest gap span .num
+
   unfoldable pub den : ℕ
-  den = 2 * apart (at P (first c)) (at P (second (P .w) c))
+  den = lowest gap span .den
+
+  -- the heading and the fraction of the way (01, Picture, levels, edgels)
+  abbrev pub passage : Passage
+  passage = record { heading = headingAt (high P k) c; num = num; den = den }
 
   -- the coordinate along the edgel is moved, the other is whole (01, Picture, levels, edgels)
   abbrev pub pointX : Float

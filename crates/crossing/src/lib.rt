@@ -1,5 +1,7 @@
 // The crossing call: where exactly a level crosses an edgel.
 use edgel::Heading;
+use ratio::distance;
+use ratio::lowest;
 use refuse::Answer;
 use refuse::Verdict;
 use refuse::answered;
@@ -8,16 +10,24 @@ use refuse::row_verdict;
 use words::edgel_fits;
 ghost use mathlib.Core.Path.{_≡_};
 ghost use mathlib.Core.Bool.{Bool, true, false, cond};
-ghost use Prim.Native.Nat.{ℕ, _+_, _*_, _<_, _≤_};
+ghost use Prim.Native.Nat.{ℕ, _+_, _*_, _%_, _≤_};
 ghost use lib.Dec.{ltb};
+ghost use lib.ListN.{getD};
 ghost use Rattle.tally.specs.Tally.{apart, differ};
 ghost use Rattle.matte.specs.Layout.{eight};
 ghost use Rattle.matte.specs.Picture.{picture};
 ghost use Rattle.edgel.specs.Heading.{number};
 ghost use Rattle.edgel.specs.Edgel.{headingOf, second};
-ghost use Rattle.crossing.specs.Crossing.{whole, along, crossingVerdict, crossingAnswer};
+ghost use Rattle.crossing.specs.Crossing.{passage, whole, along, crossingVerdict, crossingAnswer};
 
-// The answer: the heading by its number, the fraction num/den of the way, and the point as floats.
+// How a level crosses an edgel: the heading, and the fraction num/den of the way in lowest terms.
+pub struct Passage {
+    pub heading: Heading,
+    pub num: u32,
+    pub den: u32,
+}
+
+// The answer: the heading by its number, the fraction num/den of the way in lowest terms, and the point as floats.
 #[repr(C)]
 pub struct Crossing {
     pub answer: Answer,
@@ -50,25 +60,25 @@ fn other_end(w: usize, code: u32) -> usize
     i + w
 }
 
-// The distance of two numbers.
-fn distance(a: u32, b: u32) -> u32
-    ensures { λ r. ⌜ r ≡ apart a b ⌝ }
+// The sample at a place, 0 past the last.
+fn sample_at(px: &[u8], i: usize) -> u8
+    ensures { λ r. ⌜ r ≡ getD (now (px .entry)) i 0 ⌝ }
 {
-    if a < b {
-        return b - a;
+    if i < px.len() {
+        return px[i];
     }
-    a - b
+    0
 }
 
-// How far the level is from an edgel's left or top sample, doubled.
-fn num_of(k: u8, a: u8) -> u32
-    ensures { λ r. ⌜ r ≡ apart (2 * k + 1) (2 * a) ⌝ }
+// How far the level is from an edgel's left or top sample, doubled: an odd number.
+fn gap_of(k: u8, a: u8) -> u32
+    ensures { λ r. ⌜ (r ≡ apart (2 * k + 1) (2 * a)) × (r % 2 ≡ 1) ⌝ }
 {
     distance(2 * (k as u32) + 1, 2 * (a as u32))
 }
 
 // How far an edgel's samples are apart, doubled.
-fn den_of(a: u8, b: u8) -> u32
+fn span_of(a: u8, b: u8) -> u32
     ensures { λ r. ⌜ r ≡ 2 * apart a b ⌝ }
 {
     2 * distance(a as u32, b as u32)
@@ -90,10 +100,26 @@ fn heading_of(flat: bool, high: bool) -> Heading
     Heading::West
 }
 
-fn heading_number(flat: bool, high: bool) -> u32
-    ensures { λ r. ⌜ r ≡ number (headingOf flat high) ⌝ }
+// How level k crosses the edgel of a code. Every call that needs a crossing's ends, heading or fraction asks here.
+pub fn passage_at(w: usize, h: usize, px: &[u8], k: u8, code: u32) -> Passage
+    requires { ⌜ w ≤ 2048 ⌝ }
+    ensures { λ r. ⌜ r ≡ passage (picture w h (now (px .entry))) k code ⌝ }
 {
-    let g = heading_of(flat, high);
+    let i = (code / 2) as usize;
+    let a = sample_at(px, i);
+    let b = sample_at(px, other_end(w, code));
+    let f = lowest(gap_of(k, a), span_of(a, b));
+    Passage {
+        heading: heading_of(code % 2 == 0, k < a),
+        num: f.num,
+        den: f.den,
+    }
+}
+
+// A heading's number in their order.
+fn heading_number(g: Heading) -> u32
+    ensures { λ r. ⌜ r ≡ number g ⌝ }
+{
     g.number() as u32
 }
 
@@ -147,20 +173,17 @@ pub fn crossing_at(w: usize, h: usize, px: &[u8], k: u8, code: u32) -> Crossing
             y: float_of(0),
         };
     }
-    let i = (code / 2) as usize;
-    let j = other_end(w, code);
-    let a = px[i];
-    let num = num_of(k, a);
-    let den = den_of(a, px[j]);
+    let t = passage_at(w, h, px, k, code);
+    let g = t.heading;
     let flat = code % 2 == 0;
     let p = code / 2;
     let c = w as u32;
     Crossing {
         answer: answered(v, 0, 0),
-        heading: heading_number(flat, k < a),
-        num: num,
-        den: den,
-        x: coordinate(flat, p % c, num, den),
-        y: coordinate(!flat, p / c, num, den),
+        heading: heading_number(g),
+        num: t.num,
+        den: t.den,
+        x: coordinate(flat, p % c, t.num, t.den),
+        y: coordinate(!flat, p / c, t.num, t.den),
     }
 }

@@ -25,7 +25,7 @@ use Rattle.enclosure.specs.Tree.{leadWords, firsts, lineCount, levelAt, 
 use Rattle.enclosure.specs.Article.{kindIn, article}
 use Rattle.enclosure.specs.Call.{heads, half}
 use Rattle.enclosure.proofs.Witness.{two, nested, three}
-use Rattle.enclosure.proofs.Fraction.{over, den, key-order}
+use Rattle.enclosure.proofs.Fraction.{over, span, key-order}
 use Rattle.enclosure.proofs.Lines.{Setting}
 use Rattle.enclosure.proofs.Numbers.{lines-within}
 use Rattle.enclosure.proofs.Entry.{leadPos, falls}
@@ -94,7 +94,7 @@ unfolding half heads total sum cut edgel crossed
 half-pair = refl
 
 -- the crossings of levels 0 and 1 on code 8, 1/6 and 3/6 of the way
-pub pair-order : ltb (key pair 256 0 8) (key pair 256 1 8) ≡ ltb (over pair 0 8 * den pair 8) (over pair 1 8 * den pair 8)
+pub pair-order : ltb (key pair 256 0 8) (key pair 256 1 8) ≡ ltb (over pair 0 8 * span pair 8) (over pair 1 8 * span pair 8)
 unfolding cut edgel crossed
 pair-order = key-order pair 256 0 1 8 8 (omega arith) (omega arith) refl refl refl refl refl
 

@@ -1,7 +1,7 @@
 -- A property of every float that an answer holds: the crossing and the piece are the only calls with floats. Assumes nothing; the premises hold of all samples, which are bytes, and of every code, which is a u32.
 -- Definitions: `Bytes` the samples are bytes; `noneOf` no float of a list passes a test.
 -- Main laws: `crossing-each` a test that neither a whole number nor a coordinate moved along an edgel passes, neither coordinate of the crossing's answer passes; `piece-each` one that no quotient of whole numbers passes, no
---   float of the piece's answer passes, and `told-each` none of the answer for C. `held` binary64 holds the whole numbers up to 2^53.
+--   float of the piece's answer passes, and `told-each` none of the answer for C. `held` binary64 holds the whole numbers up to 2^53, and `span-few` a crossing's span is one.
 use mathlib.Core.Path.{_≡_, refl, subst}
 use mathlib.Core.Bool.{Bool, true, false, not, _&&_, cond}
 use mathlib.Core.List.{List, [], _∷_}
@@ -22,7 +22,8 @@ use Rattle.matte.specs.Picture.{Picture, at}
 use Rattle.edgel.specs.Edgel.{horizontal, column}
 use Rattle.edgel.specs.Edgel as Edgel
 use Rattle.cell.proofs.Signed.{Is, is-pos, is-neg, is-sub, is-mul}
-use Rattle.crossing.specs.Crossing.{whole, along, num, den, crossingVerdict, crossingAnswer}
+use Rattle.crossing.specs.Crossing.{whole, along, span, num, den, crossingVerdict, crossingAnswer}
+use Rattle.crossing.proofs.Lowest as Lowest
 use Rattle.crossing.proofs.Between.{done-between}
 use Rattle.piece.specs.declared.Centre.{Centre}
 use Rattle.piece.specs.declared.Found.{Found}
@@ -50,14 +51,17 @@ unfolding ofInt
 held n h = round-whole binary64 false n h
 
 -- ---- the crossing
+pub span-few : (P : Picture) → Bytes P → (k c : ℕ) → span P k c ≤ 2 ^ 53
+unfolding span
+span-few P bytes k c = omega (arith, bytes (Edgel.first c), bytes (Edgel.second (P .w) c))
+
 module _ (t : Float → Bool) (wholes : (n : ℕ) → t (whole n) ≡ false) (alongs : (n a b : ℕ) → n ≤ 2 ^ 53 → 0 < b → b ≤ 2 ^ 53 → t (along n a b) ≡ false) (P : Picture) (bytes : Bytes P) where
   module _ (k c : ℕ) (code : c < 2 ^ 32) where
     abbrev v : Verdict
     v = crossingVerdict eight P k c
 
     den-few : den P k c ≤ 2 ^ 53
-    unfolding den
-    den-few = omega (arith, bytes (Edgel.first c), bytes (Edgel.second (P .w) c))
+    den-few = omega (arith, Lowest.den-few P k c, span-few P bytes k c)
 
     column-few : column (P .w) c ≤ 2 ^ 53
     column-few = omega (arith, mod-le (c / 2) (P .w), div-le-self c 2)

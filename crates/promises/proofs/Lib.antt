@@ -4,6 +4,7 @@ pub mod OneAnswer
 pub mod EachFloat
 pub mod NoNan
 pub mod NoMinusZero
+pub mod AsBefore
 pub mod DemandOne
 pub mod RefusedExactly
 pub mod RefusedKeeps

@@ -62,7 +62,7 @@ crossing-on-surface P k t g o =
     let n = num P k e in
     let m = den P k e in
     let l : n ≤ m = omega (arith, between P k e o .1) in
-    let h : 2 * (at P (first e) * (m - n) + at P (second (P .w) e) * n) ≡ (2 * k + 1) * m = Between.height P k e (m - n) o (omega arith) in
+    let h : 2 * (at P (first e) * (m - n) + at P (second (P .w) e) * n) ≡ (2 * k + 1) * m = Between.height P k e o (m - n) (omega arith) in
     let i : 2 * (at P (firstPlace (P .w) g t) * (m - n) + at P (secondPlace (P .w) g t) * n) ≡ (2 * k + 1) * m =
     ap₂ (λ (x y : ℕ). 2 * (at P x * (m - n) + at P y * n)) (sym (first-out (P .w) g t)) (sym (second-out (P .w) g t)) ∙ h in
     ap (λ (z : ℤ). pos 2 *ℤ z) (along P t n m g) ∙ weighed (at P (firstPlace (P .w) g t)) (at P (secondPlace (P .w) g t)) m n k l i

@@ -14,7 +14,8 @@ use Rattle.matte.specs.Layout.{eight}
 use Rattle.matte.specs.Picture.{Picture, at, high}
 use Rattle.edgel.specs.Edgel.{first, second, column, row, headingAt}
 use Rattle.edgel.specs.Word.{codeOf, levelOf, flagged}
-use Rattle.crossing.specs.Crossing.{num, den}
+use Rattle.crossing.specs.Crossing.{gap, span, num, den}
+use Rattle.crossing.proofs.Lowest.{num-few, den-few}
 use Rattle.form.specs.Decimal.{decimal}
 use Rattle.form.proofs.Decimal.{decimal-length}
 use Rattle.text.specs.Listing.{field, letter, rowText, crossingText, firstText, lineText, startText, wordsText, listingText}
@@ -51,13 +52,13 @@ pub record Sized (P : Picture) (ks ws : List ℕ) : Type 0 where
 
 module _ (P : Picture) (some : 0 < P .w) (wide : P .w ≤ 2048) (bytes : (i : ℕ) → at P i < 256) where
   pub crossing-length : (k c : ℕ) → k < 256 → c < 8388608 → length (crossingText P k c) ≤ 24
-  unfolding crossingText num den
+  unfolding crossingText gap span
   crossing-length k c hk hc =
       row-length (column (P .w) c) (row (P .w) c) (letter (headingAt (high P k) c)) (num P k c) (den P k c)
       (omega (arith, mod-lt (c / 2) some))
       (omega (arith, div-le-self (c / 2) (P .w)))
-      (omega (arith, bytes (first c)))
-      (omega (arith, bytes (first c), bytes (second (P .w) c)))
+      (omega (arith, num-few P k c, bytes (first c)))
+      (omega (arith, den-few P k c, bytes (first c), bytes (second (P .w) c)))
 
   start-length : (n : ℕ) (es : List ℕ) (u : ℕ) (ws : List ℕ) → n < 100000 → length ws < 99999 → length (startText eight n es u ws) ≤ 40
   start-length n es u ws h k =

@@ -1,33 +1,31 @@
 -- The rows of words: from the numbers at hand to the text, and word after word. Assumes nothing.
 -- Definitions: `Wording` the rows of some words are put.
--- Main laws: `word-row` a crossing's row from its numbers; `start-line`, `start-none` the row of a line before its first word; `begin`, `start-room`, `word-room`, `go`, `end` the words one by one.
+-- Main laws: `word-row` a crossing's row from its heading and fraction; `start-line`, `start-none` the row of a line before its first word; `begin`, `start-room`, `word-room`, `go`, `end` the words one by one.
 use mathlib.Core.Path.{_≡_, refl, sym, ap, _∙_}
 use mathlib.Core.Bool.{true, false}
 use mathlib.Core.List.{List, [], _++_, append-assoc, append-nil}
 use Prim.Native.Nat.{ℕ, _+_, _-_, _*_, _/_, _%_, _≤_, _<_}
 use native.Mathlib.Numerals.{add-one}
 use native.Mathlib.Omega.{arith}
-use lib.Dec.{eqb, ltb}
 use lib.ListN.{length, getD, take, drop, length-append, drop-of-length-le}
 use lib.Seq.{drop-cons}
-use Rattle.tally.specs.Tally.{one, apart, firstAt}
+use Rattle.tally.specs.Tally.{one, firstAt}
 use Rattle.tally.proofs.Test.{one-le}
 use Rattle.matte.specs.Layout.{eight}
 use Rattle.matte.specs.Picture.{Picture, picture}
-use Rattle.edgel.specs.Edgel.{headingOf, headingAt, second}
 use Rattle.edgel.specs.Word.{codeOf, levelOf, flagged}
-use Rattle.crossing.specs.Crossing.{num, den}
+use Rattle.crossing.specs.declared.Passage.{Passage}
+use Rattle.crossing.specs.Crossing.{passage}
 use Rattle.form.proofs.Line.{part-end}
 use Rattle.text.specs.Put.{Put}
 use Rattle.text.specs.Listing.{letter, rowText, crossingText, lineText, wordText, startText, wordsText}
 use Rattle.text.proofs.Puts.{put-long, put-none, put-as, then}
 
 -- ---- a crossing
-module _ (w h : ℕ) (px : List ℕ) (u c k a j b g n e : ℕ) (ec : c ≡ codeOf eight u) (ek : k ≡ levelOf eight u) (ea : a ≡ getD px (c / 2) 0) (ej : j ≡ second w c)
-    (eb : b ≡ getD px j 0) (eg : g ≡ letter (headingOf (eqb (c % 2) 0) (ltb k a))) (en : n ≡ apart (2 * k + 1) (2 * a)) (ee : e ≡ apart a b) where
-  pub word-row : wordText eight (picture w h px) u ≡ rowText (c / 2 % w) (c / 2 / w) g n (2 * e)
-  unfolding crossingText num den headingAt
-  word-row = rw (eg, en, ee, eb, ej, ea, ek, ec)
+module _ (w h : ℕ) (px : List ℕ) (u c k g : ℕ) (t : Passage) (ec : c ≡ codeOf eight u) (ek : k ≡ levelOf eight u) (et : t ≡ passage (picture w h px) k c) (eg : g ≡ letter (t .heading)) where
+  pub word-row : wordText eight (picture w h px) u ≡ rowText (c / 2 % w) (c / 2 / w) g (t .num) (t .den)
+  unfolding crossingText
+  word-row = rw (eg, et, ek, ec)
 
 -- ---- a line's first word
 module _ (n : ℕ) (es : List ℕ) (u : ℕ) (ws : List ℕ) where

@@ -1,4 +1,6 @@
 // The text that the listing program prints, put into a lent buffer piece by piece. Each piece is put at a place and hands back the next one.
+use crossing::passage_at;
+use edgel::Heading;
 use edgel::code_of;
 use edgel::flagged;
 use edgel::level_of;
@@ -7,10 +9,9 @@ ghost use mathlib.Core.Path.{_≡_};
 ghost use mathlib.Core.List.{[], _∷_, _++_};
 ghost use Prim.Native.Nat.{_+_, _*_, _≤_, _<_};
 ghost use lib.ListN.{length, getD};
-ghost use Rattle.tally.specs.Tally.{one, apart, firstAt};
+ghost use Rattle.tally.specs.Tally.{one, firstAt};
 ghost use Rattle.matte.specs.Layout.{eight};
 ghost use Rattle.matte.specs.Picture.{picture};
-ghost use Rattle.edgel.specs.Edgel.{headingOf, second};
 ghost use Rattle.edgel.specs.Word.{flagged};
 ghost use Rattle.form.specs.Decimal.{decimal};
 ghost use Rattle.text.specs.Put.{Put};
@@ -111,42 +112,16 @@ fn put_line(out: &mut [u8], at: usize, n: usize, k: u8, entry: u32, count: usize
     put_field(out, d, count, 10)
 }
 
-// The letter of a crossing's heading, by its edgel's direction and whether the left or top end is high.
-fn heading_letter(flat: bool, high: bool) -> u8
-    ensures { λ r. ⌜ r ≡ letter (headingOf flat high) ⌝ }
+// The letter of a heading.
+fn heading_letter(g: Heading) -> u8
+    ensures { λ r. ⌜ r ≡ letter g ⌝ }
 {
-    if flat {
-        if high {
-            return 78;
-        }
-        return 83;
+    match g {
+        Heading::South => 83,
+        Heading::East => 69,
+        Heading::North => 78,
+        Heading::West => 87,
     }
-    if high {
-        return 69;
-    }
-    87
-}
-
-// The place of an edgel's right or bottom end.
-fn other_end(w: usize, code: u32) -> usize
-    requires { ⌜ w ≤ 2048 ⌝ }
-    ensures { λ r. ⌜ r ≡ second w code ⌝ }
-{
-    let i = (code / 2) as usize;
-    if code % 2 == 0 {
-        return i + 1;
-    }
-    i + w
-}
-
-// The distance of two numbers.
-fn distance(a: usize, b: usize) -> usize
-    ensures { λ r. ⌜ r ≡ apart a b ⌝ }
-{
-    if a < b {
-        return b - a;
-    }
-    a - b
 }
 
 // The row of a word's crossing.
@@ -157,12 +132,17 @@ fn put_word(out: &mut [u8], at: usize, w: usize, h: usize, px: &[u8], u: u32) ->
     let c = code_of(u);
     let k = level_of(u);
     let i = (c / 2) as usize;
-    let a = byte_at(px, i);
-    let b = byte_at(px, other_end(w, c));
-    let g = heading_letter(c % 2 == 0, k < a);
-    let num = distance(2 * (k as usize) + 1, 2 * (a as usize));
-    let den = 2 * distance(a as usize, b as usize);
-    put_row(out, at, i % w, i / w, g, num, den)
+    let t = passage_at(w, h, px, k, c);
+    let g = t.heading;
+    put_row(
+        out,
+        at,
+        i % w,
+        i / w,
+        heading_letter(g),
+        t.num as usize,
+        t.den as usize,
+    )
 }
 
 // How many words stand before the next flagged one.

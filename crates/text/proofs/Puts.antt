@@ -1,6 +1,6 @@
 -- Texts put one after the other. Assumes nothing.
 -- Main laws: `put-long` the buffer keeps its length; `then` a text and another one after it; `put-byte` one byte; `put-none` no text; `put-as` the same text said otherwise; `put-start`, `put-next`,
---   `put-end` bytes one by one; `digit-last`, `digit-room`, `digit-more` a number digit by digit.
+--   `put-end` bytes one by one; `digit-last`, `digit-room`, `digit-more` a number digit by digit; `pair-room`, `pair-last`, `triple-room`, `triple-last` two or three digits at once.
 use mathlib.Core.Path.{_≡_, refl, sym, ap, _∙_}
 use mathlib.Core.List.{List, [], _∷_, _++_, append-assoc}
 use Prim.Native.Nat.{ℕ, _+_, _/_, _%_, _≤_, _<_}
@@ -99,3 +99,30 @@ module _ (n : ℕ) (d : List ℕ) (i : ℕ) where
 
     pub digit-more : (r : ℕ) (e : List ℕ) → Put d i (decimal (n / 10)) r e → (q : ℕ) (f : List ℕ) → Put e r ((48 + n % 10) ∷ []) q f → Put d i (decimal n) q f
     digit-more r e p q f s = put-as (sym (decimal-more n h)) (then p s)
+
+-- ---- a number of two or three digits at once
+pair : (n : ℕ) → 10 ≤ n → n < 100 → decimal n ≡ (48 + n / 10) ∷ (48 + n % 10) ∷ []
+pair n h k = decimal-more n h ∙ ap (λ (l : List ℕ). l ++ ((48 + n % 10) ∷ [])) (decimal-small (n / 10) (omega arith))
+
+triple : (n : ℕ) → 100 ≤ n → n < 1000 → decimal n ≡ ((48 + n / 100) ∷ []) ++ ((48 + n % 100 / 10) ∷ (48 + n % 100 % 10) ∷ [])
+triple n h k =
+    let q : n / 10 / 10 ≡ n / 100 = omega arith in
+    let r : n / 10 % 10 ≡ n % 100 / 10 = omega arith in
+    let s : n % 10 ≡ n % 100 % 10 = omega arith in
+    decimal-more n (omega arith) ∙ ap (λ (l : List ℕ). l ++ ((48 + n % 10) ∷ [])) (pair (n / 10) (omega arith) (omega arith)) ∙ rw (q, r, s)
+
+module _ (n : ℕ) (d : List ℕ) (i : ℕ) where
+  module _ (h : 10 ≤ n) (k : n < 100) where
+    pub pair-room : i + length (decimal n) ≤ length d → i + 2 ≤ length d
+    pair-room l = omega (arith, ap length (pair n h k))
+
+    pub pair-last : (r : ℕ) (e : List ℕ) → Put d i ((48 + n / 10) ∷ (48 + n % 10) ∷ []) r e → Put d i (decimal n) r e
+    pair-last r e p = put-as (sym (pair n h k)) p
+
+  module _ (h : 100 ≤ n) (k : n < 1000) where
+    pub triple-room : i + length (decimal n) ≤ length d → i + 3 ≤ length d
+    triple-room l = omega (arith, ap length (triple n h k))
+
+    pub triple-last : (r : ℕ) (e : List ℕ) → Put d i ((48 + n / 100) ∷ []) r e → (q : ℕ) (f : List ℕ) → Put e r ((48 + n % 100 / 10) ∷ (48 + n % 100 % 10) ∷ []) q f
+        → Put d i (decimal n) q f
+    triple-last r e p q f s = put-as (sym (triple n h k)) (then p s)

@@ -7,7 +7,7 @@ use edgel::level_of;
 use form::byte_at;
 ghost use mathlib.Core.Path.{_≡_};
 ghost use mathlib.Core.List.{[], _∷_, _++_};
-ghost use Prim.Native.Nat.{_+_, _*_, _≤_, _<_};
+ghost use Prim.Native.Nat.{_+_, _*_, _/_, _%_, _≤_, _<_};
 ghost use lib.ListN.{length, getD};
 ghost use Rattle.tally.specs.Tally.{one, firstAt};
 ghost use Rattle.matte.specs.Layout.{eight};
@@ -26,16 +26,51 @@ fn put_byte(out: &mut [u8], at: usize, b: u8) -> usize
     at + 1
 }
 
-// A number in decimal.
-fn put_number(out: &mut [u8], at: usize, n: usize) -> usize
+// Two digits.
+fn put_two(out: &mut [u8], at: usize, n: usize) -> usize
+    requires { ⌜ (n < 100) × (at + 2 ≤ length (now out)) ⌝ }
+    ensures { λ r. ⌜ Put (now (out .entry)) at ((48 + n / 10) ∷ (48 + n % 10) ∷ []) r (now (out .exit)) ⌝ }
+{
+    let a = put_byte(out, at, 48 + ((n / 10) as u8));
+    put_byte(out, a, 48 + ((n % 10) as u8))
+}
+
+// A number below 1,000 in decimal.
+fn put_short(out: &mut [u8], at: usize, n: usize) -> usize
+    requires { ⌜ (n < 1000) × (at + length (decimal n) ≤ length (now out)) ⌝ }
+    ensures { λ r. ⌜ Put (now (out .entry)) at (decimal n) r (now (out .exit)) ⌝ }
+{
+    if n < 10 {
+        return put_byte(out, at, 48 + (n as u8));
+    }
+    if n < 100 {
+        return put_two(out, at, n);
+    }
+    let a = put_byte(out, at, 48 + ((n / 100) as u8));
+    put_two(out, a, n % 100)
+}
+
+// A number in decimal, digit by digit.
+fn put_long(out: &mut [u8], at: usize, n: usize) -> usize
     requires { ⌜ at + length (decimal n) ≤ length (now out) ⌝ }
     ensures { λ r. ⌜ Put (now (out .entry)) at (decimal n) r (now (out .exit)) ⌝ }
 {
     if n < 10 {
         return put_byte(out, at, 48 + (n as u8));
     }
-    let a = put_number(out, at, n / 10);
+    let a = put_long(out, at, n / 10);
     put_byte(out, a, 48 + ((n % 10) as u8))
+}
+
+// A number in decimal. Most of them are short.
+fn put_number(out: &mut [u8], at: usize, n: usize) -> usize
+    requires { ⌜ at + length (decimal n) ≤ length (now out) ⌝ }
+    ensures { λ r. ⌜ Put (now (out .entry)) at (decimal n) r (now (out .exit)) ⌝ }
+{
+    if n < 1000 {
+        return put_short(out, at, n);
+    }
+    put_long(out, at, n)
 }
 
 // A number, and a byte after it.

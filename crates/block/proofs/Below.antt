@@ -1,9 +1,15 @@
 -- Lists whose elements are bytes: the parts of a block. Assumes nothing.
--- Main laws: `below-nil`, `below-cons`, `below-4`, `below-append` the bound of a list made from parts; `le2-below`, `le4-below`, `zeros-below`, `pad-below`, `block-below` the parts of a block are bytes.
+-- Main laws: `below-nil`, `below-cons`, `below-4`, `below-append` the bound of a list made from parts; `le2-below`, `le4-below`, `zeros-below`, `pad-below`, `block-below` the parts of a block are bytes; `set-below` a
+--   byte stored leaves bytes.
+use mathlib.Core.Path.{_≡_, sym, ap, _∙_}
 use mathlib.Core.List.{List, [], _∷_, _++_}
 use Prim.Native.Nat.{ℕ, zero, suc, _-_, _/_, _%_, _<_}
 use native.Mathlib.Omega.{arith}
-use lib.ListN.{length, replicate}
+use lib.Dec.{eqb}
+use lib.ListN.{length, getD, set, replicate, length-set}
+use lib.Seq.{getD-set-same, getD-set-other}
+use borrow.Author.Tests.{eqb-true, eqb-false}
+use Rattle.tally.proofs.Test.{by-test}
 use Rattle.block.specs.Block.{le2, le4, check, pad, block}
 use Rattle.block.proofs.Bytes.{Below}
 
@@ -38,3 +44,11 @@ pad-below l b = below-append 256 l (replicate (508 - length l) 0) b (zeros-below
 
 pub block-below : (n : ℕ) (p : List ℕ) → Below 256 p → Below 256 (block n p)
 block-below n p b = below-append 256 p (le4 (check n p)) b (le4-below (check n p))
+
+pub set-below : (b : List ℕ) (i v : ℕ) → Below 256 b → v < 256 → Below 256 (set b i v)
+set-below b i v h k m l =
+    by-test (eqb m i)
+    (λ t.
+    let q : i ≡ m = sym (eqb-true m i t) in
+    rw (ap (λ (j : ℕ). getD (set b i v) j 0) (sym q) ∙ getD-set-same b i v 0 (omega (arith, length-set b i v))) k)
+    (λ t. rw (getD-set-other b i m v 0 (eqb-false m i t)) (h m (omega (arith, length-set b i v))))

@@ -28,7 +28,7 @@ module _ (l : List ℕ) (s i : ℕ) where
   stirred-end c e f = sym (f ∙ stirred-all e)
 
 -- the low 31 bits move up, the highest to the bottom
-turned : (s : ℕ) → s < 4294967296 → rotate s ≡ 2 * (s % 2147483648) + s / 2147483648
+pub turned : (s : ℕ) → s < 4294967296 → rotate s ≡ 2 * (s % 2147483648) + s / 2147483648
 turned s g = omega arith
 
 rotate-below : (s : ℕ) → s < 4294967296 → rotate s < 4294967296

@@ -3,3 +3,9 @@ pub mod Check
 pub mod Put
 pub mod Bytes
 pub mod Below
+pub mod Damage
+pub mod Apart
+pub mod Two
+pub mod Place
+pub mod Changed
+pub mod Burst

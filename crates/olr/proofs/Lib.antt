@@ -14,3 +14,4 @@ pub mod There
 pub mod Round
 pub mod Back
 pub mod Bytewise
+pub mod Damage

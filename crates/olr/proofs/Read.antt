@@ -42,7 +42,7 @@ module _ (f : List ℕ) where
     pub good : fileWordCount f ≤ badAt
     pub roomy : fileWordCount f ≤ length out
 
-  bad-no : 0 < length f → length f % 512 ≡ 0 → lengthBad f ≡ false
+  pub bad-no : 0 < length f → length f % 512 ≡ 0 → lengthBad f ≡ false
   bad-no e g =
       ap (λ (b : Bool). b || not (eqb (length f % 512) 0)) (ne-eqb (length f) 0 (λ z. omega (arith, e))) ∙ ap not (eq-eqb (length f % 512) 0 g)
 

@@ -22,6 +22,8 @@ pub mod DemandTwoList
 pub mod DemandTwoPaint
 pub mod DemandTwoFile
 pub mod DemandTwoCalls
+pub mod BadBlock
+pub mod Storage
 pub mod ListThen
 pub mod HotSample
 pub mod HotCalls

@@ -1,2 +1,3 @@
 pub mod Small
 pub mod Stepped
+pub mod Storage

@@ -56,6 +56,10 @@ pub enum Fault {
     UpperMedian,
     /// The check leaves out the number of the block.
     CheckWithoutBlock,
+    /// The check adds the bytes without turning the sum.
+    CheckUnturned,
+    /// The place of refusal 13 is the last bad block.
+    LastBadBlock,
     /// Bytes after the last word need not be zero.
     LooseZeros,
     /// Blocks after the last due one are let through.
@@ -96,7 +100,7 @@ pub enum Fault {
 
 impl Fault {
     /// Every wrong variant.
-    pub const ALL: [Fault; 44] = [
+    pub const ALL: [Fault; 46] = [
         Fault::SaddleSouthOnly,
         Fault::EqualityRightOnce,
         Fault::EqualityRight,
@@ -123,6 +127,8 @@ impl Fault {
         Fault::OnlyDenReduced,
         Fault::UpperMedian,
         Fault::CheckWithoutBlock,
+        Fault::CheckUnturned,
+        Fault::LastBadBlock,
         Fault::LooseZeros,
         Fault::SurplusBlocks,
         Fault::NoLimit,

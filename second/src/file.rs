@@ -34,7 +34,8 @@ impl Second {
     /// The check of a block with this number.
     fn check(&self, number: usize, payload: &[u8]) -> u32 {
         let start = if self.wrong(Fault::CheckWithoutBlock) { 0 } else { number as u32 };
-        payload.iter().fold(start, |sum, &byte| sum.rotate_left(1).wrapping_add(byte as u32))
+        let turn = if self.wrong(Fault::CheckUnturned) { 0 } else { 1 };
+        payload.iter().fold(start, |sum, &byte| sum.rotate_left(turn).wrapping_add(byte as u32))
     }
 
     /// Writes the outline file into the room.
@@ -104,7 +105,8 @@ impl Second {
     fn checks_good(&self, file: &[u8]) -> Checked {
         let wrong =
             |(number, block): (usize, &[u8])| self.check(number, &block[..PAYLOAD]).to_le_bytes() != block[PAYLOAD..];
-        let place = file.chunks(BLOCK).enumerate().position(wrong);
+        let mut bad = file.chunks(BLOCK).enumerate().filter(|&block| wrong(block)).map(|(number, _)| number);
+        let place = if self.wrong(Fault::LastBadBlock) { bad.last() } else { bad.next() };
         refuse_at(13, place.unwrap_or(0) as u64, place.is_some())
     }
 

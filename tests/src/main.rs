@@ -42,6 +42,7 @@ mod show;
 mod shrink;
 mod small;
 mod stack;
+mod storage;
 mod vectors;
 mod words;
 
@@ -72,6 +73,7 @@ const GROUPS: [Group; 13] = [
     Group { name: "cells", random: true, heavy: false, run: cells::group },
     Group { name: "words", random: true, heavy: false, run: words::group },
     Group { name: "files", random: true, heavy: false, run: files::group },
+    Group { name: "storage", random: true, heavy: false, run: storage::group },
     Group { name: "frames", random: true, heavy: false, run: frames::group },
     Group { name: "listings", random: true, heavy: false, run: listings::group },
     Group { name: "stack", random: false, heavy: true, run: stack::group },

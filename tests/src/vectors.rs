@@ -25,9 +25,18 @@ const FILES: [&str; 13] = [
     include_str!("../vectors/R-05.json"),
 ];
 
+/// Worked cases of change requests, each with all requests landed.
+const REQUESTS: [&str; 1] = [include_str!("../vectors/R-14.json")];
+
 pub fn group(run: &mut Run) {
-    for file in FILES {
-        for vector in Json::parse(file).list() {
+    let mut later = 0;
+    for file in FILES.into_iter().chain(REQUESTS) {
+        let file = Json::parse(file);
+        for vector in file.find("cases").unwrap_or(&file).list() {
+            if not_yet(vector) {
+                later += 1;
+                continue;
+            }
             let case = case_of(vector);
             let again = replay::case_of(&replay::text(&case)).ok().as_ref() == Some(&case);
             run.direct(&case, (!again).then(|| "the text of the case says another case".to_string()));
@@ -44,6 +53,12 @@ pub fn group(run: &mut Run) {
             }
         }
     }
+    run.notes.push(format!("{later} cases left out, of OLR2 and of the converter, which are not there yet"));
+}
+
+/// Is the case about a request that has not landed? OLR2 comes with R-10, the converter with R-11.
+fn not_yet(vector: &Json) -> bool {
+    vector.get("call").text() == "convert" || vector.get("about").text().starts_with("OLR2")
 }
 
 fn call_of(vector: &Json) -> Call {
@@ -126,7 +141,7 @@ fn expected_of(vector: &Json, case: &Case) -> Outcome {
     Outcome { said, work, places, entries, room, guards_whole: true, unchanged }
 }
 
-/// Memory after the call: the same, a list, or bytes in hex.
+/// Memory after the call: the same, a list, one value so many times, or bytes in hex.
 fn after_of<T: Place>(vector: &Json, names: &[&str], room: Room) -> Vec<T> {
     let after = vector.find("after").and_then(|after| names.iter().find_map(|name| after.find(name)));
     match after {
@@ -136,7 +151,10 @@ fn after_of<T: Place>(vector: &Json, names: &[&str], room: Room) -> Vec<T> {
             Lent::new(room).after()
         }
         Some(Json::List(list)) => list.iter().map(|value| T::of(value.number())).collect(),
-        Some(bytes) => hex(bytes.get("hex").text()).into_iter().map(|byte| T::of(byte as u64)).collect(),
+        Some(after) => match after.find("repeat") {
+            Some(value) => vec![T::of(value.number()); after.get("times").number() as usize],
+            None => hex(after.get("hex").text()).into_iter().map(|byte| T::of(byte as u64)).collect(),
+        },
     }
 }
 
@@ -192,21 +210,26 @@ fn read_of(json: &Json, answer: Answer) -> Read {
 
 /// A file as whole hex, or block by block without the zeros before each check.
 fn file_of(input: &Json) -> Vec<u8> {
+    if let Some(data) = input.find("data") {
+        return blocks_of(data.get("blocks"));
+    }
     let file = match input.get("data_hex_without_trailing_zeros_of_each_block") {
         Json::Text(whole) => hex(whole),
-        blocks => {
-            let block = |text: &str| {
-                let (payload, check) = text.split_once(" check ").expect("payload and check");
-                let mut bytes = hex(payload);
-                bytes.resize(508, 0);
-                bytes.extend(hex(check));
-                bytes
-            };
-            blocks.list().iter().flat_map(|text| block(text.text())).collect()
-        }
+        blocks => blocks_of(blocks),
     };
     assert!(file.len() as u64 == input.get("length").number());
     file
+}
+
+fn blocks_of(blocks: &Json) -> Vec<u8> {
+    let block = |text: &str| {
+        let (payload, check) = text.split_once(" check ").expect("payload and check");
+        let mut bytes = hex(payload);
+        bytes.resize(508, 0);
+        bytes.extend(hex(check));
+        bytes
+    };
+    blocks.list().iter().flat_map(|text| block(text.text())).collect()
 }
 
 /// Hex, at times with a number of zero bytes to follow.

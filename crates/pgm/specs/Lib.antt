@@ -1,0 +1,4 @@
+pub mod Grammar
+pub mod Reader
+pub mod Call
+pub mod Writer

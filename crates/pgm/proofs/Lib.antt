@@ -1,3 +1,4 @@
+pub mod Witness
 pub mod Bytes
 pub mod Cap
 pub mod Steps
@@ -5,3 +6,13 @@ pub mod Rows
 pub mod Header
 pub mod Plain
 pub mod Verdicts
+pub mod Pieces
+pub mod Takes
+pub mod Sampled
+pub mod Exact
+pub mod Whole
+pub mod Printed
+pub mod Places
+pub mod GaveUp
+pub mod Short
+pub mod Stops

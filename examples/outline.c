@@ -2,7 +2,7 @@
  *
  *   outline LEVEL.. < matte.pgm
  *
- * The matte is a binary PGM (P5) with 255 as its greatest value; levels are 0 to 254, ascending. */
+ * The matte is a PGM, P5 or P2, up to a maximum of 255; levels are 0 to 254, ascending. */
 #include <loafcanyon.h>
 
 #include <stdio.h>
@@ -30,18 +30,14 @@ int main(int count, char **texts) {
   size_t level_count = 0;
   for (int i = 1; i < count && level_count < 255; i++) levels[level_count++] = (uint8_t)atoi(texts[i]);
 
-  /* The picture. */
-  size_t w, h, most;
-  if (scanf("P5 %zu %zu %zu", &w, &h, &most) != 3 || most != 255 || getchar() == EOF || w > 2048 || h > 2048) {
-    printf("outline: this is no binary PGM of at most 2048 by 2048\n");
-    return 1;
-  }
-  size_t n = w * h;
-  uint8_t *scanned = (uint8_t *)lend(n), *px = (uint8_t *)lend(n), *work = (uint8_t *)lend(n);
-  if (fread(scanned, 1, n, stdin) != n) {
-    printf("outline: samples are missing\n");
-    return 1;
-  }
+  /* The picture. A plain one of the largest size takes a few bytes a sample. */
+  size_t most = 2048 * 2048, length;
+  uint8_t *pgm = (uint8_t *)lend(8 * most), *scanned = (uint8_t *)lend(most);
+  length = fread(pgm, 1, 8 * most, stdin);
+  struct loafcanyon_pgm_answer picture = loafcanyon_pgm(pgm, length, scanned, most);
+  done("pgm", picture.answer);
+  size_t w = picture.width, h = picture.height, n = w * h;
+  uint8_t *px = (uint8_t *)lend(n), *work = (uint8_t *)lend(n);
 
   /* Its border made even, so that every outline closes. */
   done("frame", loafcanyon_frame(w, h, scanned, n, px, n));
@@ -101,6 +97,6 @@ int main(int count, char **texts) {
                                  again, m, painted, n));
   for (size_t i = 0; i < n; i++) printf("%d%c", painted[i], (i + 1) % w == 0 ? '\n' : ' ');
 
-  free(scanned), free(px), free(work), free(words), free(entries), free(file), free(painted), free(again);
+  free(pgm), free(scanned), free(px), free(work), free(words), free(entries), free(file), free(painted), free(again);
   return 0;
 }

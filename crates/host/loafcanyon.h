@@ -7,7 +7,7 @@
  *   Words and entries   taken apart and made
  *   Sizes               what each buffer needs
  *   Answers             the structs
- *   Calls               ten of them
+ *   Calls               eleven of them
  *
  * Before you call
  *
@@ -77,7 +77,11 @@ enum loafcanyon_number {
   LOAFCANYON_TOO_MANY = 16,    /* more than 16,777,215 words, which is the most that a file holds */
   LOAFCANYON_BORDER_BOTTOM = 17, /* as 4, but in the bottom row; a corner counts as its row */
   LOAFCANYON_BORDER_LEFT = 18,   /* as 4, but in the left column */
-  LOAFCANYON_BORDER_RIGHT = 19   /* as 4, but in the right column */
+  LOAFCANYON_BORDER_RIGHT = 19,  /* as 4, but in the right column */
+  LOAFCANYON_HEADER = 22,      /* a PGM's header is not of the form, or its maximum is not 1 to 255; place: the byte at which it gave up:
+                                  the first of an unfit maximum, else the first wrong one, or the length where the file ends early */
+  LOAFCANYON_ABOVE = 23,       /* a sample of a PGM is above its maximum; place: the sample's first byte */
+  LOAFCANYON_MISSING = 24      /* a PGM has no further sample; place: the byte that is none, or the length where the file ends early */
 };
 
 #define LOAFCANYON_FILE_WORDS 16777215 /* the most words in one file */
@@ -115,7 +119,7 @@ static inline uint32_t loafcanyon_entry_parent(uint32_t entry) { return (entry &
  *   px      exactly w*h samples, row by row
  *   levels  0 to 255 of them, each 0 to 254, ascending; level k is the height k + 1/2
  *   work    w*h bytes at least
- *   room    w*h bytes at least
+ *   room    w*h bytes at least, for loafcanyon_pgm as the header of the file says: 2,048*2,048 are always enough
  *   words   as many places as the answer's place says when they are too few
  *   places  half of all horizontal crossings, of all levels, although only one a line is written; the answer's place says how
  *           many, and half as many as there are words is always enough
@@ -182,6 +186,14 @@ struct loafcanyon_read_answer {
   uint8_t levels[255];
 };
 
+/* The sides, and the maximum that the file says: samples are 0 to that, and stay as they are in the file. */
+struct loafcanyon_pgm_answer {
+  struct loafcanyon_answer answer;
+  uint32_t width;
+  uint32_t height;
+  uint32_t maximum;
+};
+
 /* Calls. `Refuses` gives the order of the numbers. */
 #ifdef __cplusplus
 extern "C" {
@@ -241,6 +253,12 @@ struct loafcanyon_answer loafcanyon_write(size_t w, size_t h, uint8_t border, co
  * Refuses 12 13 14 8 6. */
 struct loafcanyon_read_answer loafcanyon_read(const uint8_t *file, size_t file_count, uint32_t *words,
                                               size_t word_count);
+
+/* Reads a PGM of file_count bytes, P5 or P2, with a maximum of 1 to 255: width*height samples go to room as they are, not scaled. Any
+ * white space and comments may stand between the fields of the header; one white space byte stands after the maximum. Bytes after the
+ * last sample are not read.
+ * Refuses 22 1 9 23 24; of 23 and 24 the one that comes first in the file. Room beyond width*height is left. */
+struct loafcanyon_pgm_answer loafcanyon_pgm(const uint8_t *file, size_t file_count, uint8_t *room, size_t room_count);
 
 #ifdef __cplusplus
 }

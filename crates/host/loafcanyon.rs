@@ -59,6 +59,15 @@ pub struct ReadAnswer {
     pub levels: [u8; 255],
 }
 
+/// What is read from a PGM, beside its samples.
+#[repr(C)]
+pub struct PgmAnswer {
+    pub answer: Answer,
+    pub width: u32,
+    pub height: u32,
+    pub maximum: u32,
+}
+
 extern "C" {
     pub fn loafcanyon_frame(w: usize, h: usize, px: *const u8, px_count: usize, room: *mut u8, room_count: usize)
         -> Answer;
@@ -87,6 +96,7 @@ extern "C" {
         file: *mut u8, file_count: usize,
     ) -> Answer;
     fn loafcanyon_read(file: *const u8, file_count: usize, words: *mut u32, word_count: usize) -> ReadAnswer;
+    fn loafcanyon_pgm(file: *const u8, file_count: usize, room: *mut u8, room_count: usize) -> PgmAnswer;
 }
 
 // SAFETY, of every call here: each pointer comes with its slice's count, and slices are never null, are aligned, and overlap no slice
@@ -138,4 +148,8 @@ pub fn write(w: usize, h: usize, border: u8, levels: &[u8], words: &[u32], file:
 
 pub fn read(file: &[u8], words: &mut [u32]) -> ReadAnswer {
     unsafe { loafcanyon_read(file.as_ptr(), file.len(), words.as_mut_ptr(), words.len()) }
+}
+
+pub fn pgm(file: &[u8], room: &mut [u8]) -> PgmAnswer {
+    unsafe { loafcanyon_pgm(file.as_ptr(), file.len(), room.as_mut_ptr(), room.len()) }
 }

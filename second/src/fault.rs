@@ -96,11 +96,23 @@ pub enum Fault {
     LeadingZeros,
     /// The form takes one newline after the samples.
     TrailingNewline,
+    /// Two white bytes are skipped after the maximum of a PGM.
+    PgmTwoWhite,
+    /// A comment is taken after the maximum of a PGM.
+    PgmCommentLast,
+    /// All samples of a PGM are looked for before one is found too large: 24 before 23.
+    PgmMissingFirst,
+    /// A number of a PGM with a leading zero is refused.
+    PgmZerosRefused,
+    /// The place of 22, 23 and 24 is one byte late.
+    PgmPlaceLate,
+    /// A PGM is refused after the samples before were written.
+    PgmRefusedWrites,
 }
 
 impl Fault {
     /// Every wrong variant.
-    pub const ALL: [Fault; 46] = [
+    pub const ALL: [Fault; 52] = [
         Fault::SaddleSouthOnly,
         Fault::EqualityRightOnce,
         Fault::EqualityRight,
@@ -147,5 +159,11 @@ impl Fault {
         Fault::NoLineAtEnd,
         Fault::LeadingZeros,
         Fault::TrailingNewline,
+        Fault::PgmTwoWhite,
+        Fault::PgmCommentLast,
+        Fault::PgmMissingFirst,
+        Fault::PgmZerosRefused,
+        Fault::PgmPlaceLate,
+        Fault::PgmRefusedWrites,
     ];
 }

@@ -15,6 +15,7 @@ mod lines;
 mod list;
 mod listing;
 mod paint;
+mod pgm;
 mod piece;
 mod refusal;
 mod tree;
@@ -23,6 +24,7 @@ mod word;
 pub use crossing::Crossing;
 pub use fault::Fault;
 pub use file::Read;
+pub use pgm::Grey;
 pub use piece::{Centre, Piece};
 pub use refusal::Answer;
 

@@ -1,6 +1,6 @@
 //! The calls of the product as the suite sees them.
 
-use second::{Answer, Centre, Crossing, Piece, Read, Second};
+use second::{Answer, Centre, Crossing, Grey, Piece, Read, Second};
 
 /// The name of each call.
 #[derive(Clone, Copy, Debug, Default, PartialEq, Eq, PartialOrd, Ord)]
@@ -16,11 +16,12 @@ pub enum Call {
     Paint,
     Write,
     Read,
+    Pgm,
     Listing,
 }
 
 /// All calls.
-pub const ALL: [Call; 11] = [
+pub const ALL: [Call; 12] = [
     Call::List,
     Call::Tree,
     Call::Frame,
@@ -31,6 +32,7 @@ pub const ALL: [Call; 11] = [
     Call::Paint,
     Call::Write,
     Call::Read,
+    Call::Pgm,
     Call::Listing,
 ];
 
@@ -64,6 +66,7 @@ pub trait Calls: Sync {
     fn paint(&self, w: usize, h: usize, v: u8, levels: &[u8], words: &[u32], room: &mut [u8]) -> Answer;
     fn write(&self, w: usize, h: usize, v: u8, levels: &[u8], words: &[u32], file: &mut [u8]) -> Answer;
     fn read(&self, file: &[u8], words: &mut [u32]) -> Read;
+    fn pgm(&self, file: &[u8], room: &mut [u8]) -> Grey;
     fn listing(&self, input: &[u8]) -> Vec<u8>;
 }
 
@@ -117,6 +120,10 @@ impl Calls for Second {
 
     fn read(&self, file: &[u8], words: &mut [u32]) -> Read {
         Second::read(self, file, words)
+    }
+
+    fn pgm(&self, file: &[u8], room: &mut [u8]) -> Grey {
+        Second::pgm(self, file, room)
     }
 
     fn listing(&self, input: &[u8]) -> Vec<u8> {

@@ -4,7 +4,7 @@ use std::fmt;
 use std::panic::{self, catch_unwind, AssertUnwindSafe};
 use std::sync::atomic::{AtomicBool, Ordering};
 
-use second::{Answer, Read};
+use second::{Answer, Grey, Read};
 
 use crate::calls::{Call, Calls, Part, Shape};
 use crate::lent::{Lent, Room};
@@ -33,7 +33,7 @@ pub struct Case {
     pub places: Room,
     /// Tree places.
     pub entries: Room,
-    /// Sample room of framing and painting, file room of writing.
+    /// Sample room of framing, painting and reading a PGM, file room of writing.
     pub room: Room,
 }
 
@@ -46,6 +46,7 @@ pub enum Said {
     Part(Part),
     Member(Answer, bool),
     Read(Box<Read>),
+    Pgm(Grey),
     Listing(Vec<u8>),
     Panicked,
 }
@@ -70,6 +71,7 @@ impl Said {
             Said::Plain(answer) | Said::Member(answer, _) => Some(*answer),
             Said::Crossing { answer, .. } | Said::Piece { answer, .. } => Some(*answer),
             Said::Read(read) => Some(read.answer),
+            Said::Pgm(grey) => Some(grey.answer),
             Said::Part(_) | Said::Listing(_) | Said::Panicked => None,
         }
     }
@@ -170,6 +172,7 @@ impl Case {
                 Said::Member(answer, inside)
             }
             Call::Read => Said::Read(Box::new(calls.read(&self.input, places))),
+            Call::Pgm => Said::Pgm(calls.pgm(&self.input, room)),
             Call::Listing => Said::Listing(calls.listing(&self.input)),
         }
     }
@@ -180,7 +183,7 @@ impl fmt::Display for Case {
         use Call::*;
         let takes = |calls: &[Call]| calls.contains(&self.call);
         write!(f, "{:?}", self.call)?;
-        if !takes(&[LinePart, Read, Listing]) {
+        if !takes(&[LinePart, Read, Pgm, Listing]) {
             write!(f, " w {} h {}", self.w, self.h)?;
         }
         if takes(&[List, Tree, Frame, Crossing, Piece]) {
@@ -201,7 +204,7 @@ impl fmt::Display for Case {
             LinePart => write!(f, " n {}", self.n)?,
             Member => write!(f, " n {} x {} y {}", self.n, self.x, self.y)?,
             Read => write!(f, " file {}", show(&self.input))?,
-            Listing => write!(f, " input \"{}\"", self.input.escape_ascii())?,
+            Pgm | Listing => write!(f, " input \"{}\"", self.input.escape_ascii())?,
             _ => {}
         }
         for (name, room) in self.rooms() {

@@ -2,7 +2,7 @@
 
 use std::mem::{align_of, offset_of, size_of};
 
-use crate::loafcanyon::{Answer, CrossingAnswer, MemberAnswer, PartAnswer, PieceAnswer, ReadAnswer};
+use crate::loafcanyon::{Answer, CrossingAnswer, MemberAnswer, PartAnswer, PgmAnswer, PieceAnswer, ReadAnswer};
 
 /// The size of what a function picks out of a struct.
 fn size_in<S, F>(_pick: fn(&S) -> &F) -> usize {
@@ -28,5 +28,6 @@ pub fn print() {
         MemberAnswer: answer inside;
         PartAnswer: start count;
         ReadAnswer: answer width height border count levels;
+        PgmAnswer: answer width height maximum;
     }
 }

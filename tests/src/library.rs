@@ -6,7 +6,7 @@
 use std::io::{ErrorKind, Write};
 use std::process::{Command, Stdio};
 
-use second::{Answer, Crossing, Read};
+use second::{Answer, Crossing, Grey, Read};
 
 use crate::calls::{Calls, Part, Shape};
 use crate::loafcanyon;
@@ -72,6 +72,11 @@ impl Calls for Library {
     fn read(&self, file: &[u8], words: &mut [u32]) -> Read {
         let t = loafcanyon::read(file, words);
         Read { answer: t.answer.into(), w: t.width, h: t.height, border: t.border, count: t.count, levels: t.levels }
+    }
+
+    fn pgm(&self, file: &[u8], room: &mut [u8]) -> Grey {
+        let t = loafcanyon::pgm(file, room);
+        Grey { answer: t.answer.into(), w: t.width, h: t.height, maximum: t.maximum }
     }
 
     /// The program itself is run: it is proved and built beside the library.

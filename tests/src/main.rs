@@ -32,6 +32,7 @@ mod listings;
 #[cfg(feature = "library")]
 #[path = "../../crates/host/loafcanyon.rs"]
 mod loafcanyon;
+mod pgms;
 mod pictures;
 mod random;
 mod refusals;
@@ -63,7 +64,7 @@ pub struct Group {
     run: fn(&mut Run),
 }
 
-const GROUPS: [Group; 13] = [
+const GROUPS: [Group; 15] = [
     Group { name: "vectors", random: false, heavy: false, run: vectors::group },
     Group { name: "small", random: false, heavy: false, run: small::group },
     Group { name: "refusals", random: true, heavy: false, run: refusals::group },
@@ -74,6 +75,7 @@ const GROUPS: [Group; 13] = [
     Group { name: "words", random: true, heavy: false, run: words::group },
     Group { name: "files", random: true, heavy: false, run: files::group },
     Group { name: "storage", random: true, heavy: false, run: storage::group },
+    Group { name: "pgms", random: true, heavy: false, run: pgms::group },
     Group { name: "frames", random: true, heavy: false, run: frames::group },
     Group { name: "listings", random: true, heavy: false, run: listings::group },
     Group { name: "stack", random: false, heavy: true, run: stack::group },

@@ -5,6 +5,7 @@ use crate::calls::Call;
 use crate::case::Case;
 use crate::files::write_case;
 use crate::lent::Room;
+use crate::pgms;
 use crate::pictures::{self, Picture};
 use crate::rng::Rng;
 use crate::run::Run;
@@ -21,9 +22,9 @@ struct Table {
 }
 
 /// The numbers of the border's edges. Which of them is given goes by the first sample that differs, not by their order.
-const EDGES: [u32; 4] = [4, 17, 18, 19];
+const EDGES: [u32; 4] = [4, 17, 18, 110];
 
-const TABLES: [Table; 9] = [
+const TABLES: [Table; 10] = [
     Table {
         call: Call::List,
         base: list_base,
@@ -77,6 +78,11 @@ const TABLES: [Table; 9] = [
         call: Call::Read,
         base: read_base,
         order: &[(12, length), (13, check), (14, layout), (8, stored_word), (6, places)],
+    },
+    Table {
+        call: Call::Pgm,
+        base: pgm_base,
+        order: &[(22, header), (1, pgm_side), (9, sample_room), (23, above), (24, missing)],
     },
 ];
 
@@ -353,5 +359,75 @@ fn length(case: &mut Case, rng: &mut Rng) {
         0 => case.input.clear(),
         1 => case.input.truncate(case.input.len() - rng.between(1, 511)),
         _ => case.input.push(0),
+    }
+}
+
+/// Both forms, written plainly, so that the parts below are easily found. A sample of P5 can be above its maximum.
+fn pgm_base(rng: &mut Rng) -> Case {
+    let mut parts = pgms::some_parts(rng);
+    parts.maximum = parts.maximum.min(254);
+    parts.px.iter_mut().for_each(|sample| *sample = (*sample).min(parts.maximum));
+    pgm_case(&parts, rng)
+}
+
+/// The file of these parts, and room for its samples.
+pub fn pgm_case(parts: &pgms::Parts, rng: &mut Rng) -> Case {
+    let (w, h) = (parts.w, parts.h);
+    let mut input = format!("P{} {w} {h} {}\n", if parts.plain { 2 } else { 5 }, parts.maximum).into_bytes();
+    match parts.plain {
+        true => parts.px.iter().for_each(|sample| input.extend(format!("{sample} ").bytes())),
+        false => input.extend(&parts.px),
+    }
+    Case { call: Call::Pgm, w, h, input, room: Room::enough(rng, w * h), ..Case::default() }
+}
+
+/// The bytes of a header's word: 0 the magic, 3 the maximum, 4 the first sample of P2.
+fn word_at(input: &[u8], n: usize) -> std::ops::Range<usize> {
+    let mut at = 0;
+    for word in 0.. {
+        let start = at + input[at..].iter().take_while(|byte| byte.is_ascii_whitespace()).count();
+        let end = start + input[start..].iter().take_while(|byte| !byte.is_ascii_whitespace()).count();
+        if word == n {
+            return start..end;
+        }
+        at = end;
+    }
+    unreachable!()
+}
+
+fn header(case: &mut Case, rng: &mut Rng) {
+    match rng.below(3) {
+        0 => case.input[1] = b'6',
+        _ => drop(case.input.splice(word_at(&case.input, 3), rng.one_of(&["0", "000", "256", "65535"]).bytes())),
+    }
+}
+
+fn pgm_side(case: &mut Case, rng: &mut Rng) {
+    let side = word_at(&case.input, rng.between(1, 2));
+    case.input.splice(side, rng.one_of(&["0", "1", "2049", "99999999999999999999999"]).bytes());
+}
+
+fn above(case: &mut Case, _rng: &mut Rng) {
+    let maximum = word_at(&case.input, 3);
+    let digits = case.input[maximum.clone()].iter();
+    let above = digits.fold(0, |number, digit| number * 10 + (digit - b'0') as usize) + 1;
+    match case.input[1] {
+        b'2' => drop(case.input.splice(word_at(&case.input, 4), above.to_string().bytes())),
+        _ => case.input[maximum.end + 1] = above as u8,
+    }
+}
+
+/// The last sample is not there.
+fn missing(case: &mut Case, rng: &mut Rng) {
+    if case.input[1] == b'2' {
+        case.input.pop();
+        while case.input.last().is_some_and(u8::is_ascii_digit) {
+            case.input.pop();
+        }
+        if rng.once_in(2) {
+            case.input.extend(b"#9\n1");
+        }
+    } else {
+        case.input.pop();
     }
 }

@@ -53,6 +53,7 @@ impl Display for Said {
                 let (w, h, border, count) = (read.w, read.h, read.border, read.count);
                 write!(f, " w {w} h {h} border {border} count {count} levels {}", show(&read.levels))
             }
+            Said::Pgm(grey) => write!(f, " w {} h {} maximum {}", grey.w, grey.h, grey.maximum),
             Said::Listing(text) => write!(f, "\"{}\"", text.escape_ascii()),
             Said::Panicked => write!(f, "panicked"),
         }

@@ -9,8 +9,9 @@ use crate::calls::Call;
 use crate::case::{Case, Outcome};
 use crate::files::write_case;
 use crate::lent::Room;
+use crate::pgms;
 use crate::pictures::{self, Picture};
-use crate::refusals::each_refused;
+use crate::refusals::{each_refused, pgm_case};
 use crate::rng::Rng;
 use crate::run::Run;
 use crate::words::good_words;
@@ -84,6 +85,12 @@ fn done(rng: &mut Rng) -> Vec<Case> {
         }
     }
     cases.extend(longest_file(rng));
+    for plain in [false, true] {
+        for (w, h) in [(90, 70), (2048, 2048)] {
+            let px = (0..w * h).map(|_| rng.below(255) as u8).collect();
+            cases.push(pgm_case(&pgms::Parts { plain, w, h, maximum: 254, px }, rng));
+        }
+    }
     cases
 }
 

@@ -1,6 +1,6 @@
 //! Group: the worked cases, held against the subject and against the second program.
 
-use second::{Answer, Read, Second};
+use second::{Answer, Grey, Read, Second};
 
 use crate::calls::{Call, Part};
 use crate::case::{Case, Outcome, Said};
@@ -9,7 +9,7 @@ use crate::lent::{Fill, Lent, Place, Room};
 use crate::replay;
 use crate::run::Run;
 
-const FILES: [&str; 13] = [
+const FILES: [&str; 14] = [
     include_str!("../vectors/border.json"),
     include_str!("../vectors/crossing.json"),
     include_str!("../vectors/file.json"),
@@ -19,6 +19,7 @@ const FILES: [&str; 13] = [
     include_str!("../vectors/listing.json"),
     include_str!("../vectors/membership.json"),
     include_str!("../vectors/paint.json"),
+    include_str!("../vectors/pgm.json"),
     include_str!("../vectors/piece.json"),
     include_str!("../vectors/tree.json"),
     include_str!("../vectors/R-02.json"),
@@ -73,6 +74,7 @@ fn call_of(vector: &Json) -> Call {
         "paint" => Call::Paint,
         "write" => Call::Write,
         "read" => Call::Read,
+        "read PGM" => Call::Pgm,
         "listing program" => Call::Listing,
         other => panic!("no call {other}"),
     }
@@ -94,7 +96,11 @@ fn case_of(vector: &Json) -> Case {
         px: bytes("u"),
         levels: bytes("levels"),
         words: list("words"),
-        input: if call == Call::Read { file_of(input) } else { vec![] },
+        input: match call {
+            Call::Read => file_of(input),
+            Call::Pgm => hex(input.get("data").get("hex").text()),
+            _ => vec![],
+        },
         level: number("k") as u8,
         border: number("v") as u8,
         code: number("code") as u32,
@@ -194,6 +200,10 @@ fn said_of(json: &Json, call: Call) -> Said {
         }
         Call::Member => Said::Member(answer, number("inside") == 1),
         Call::Read => Said::Read(Box::new(read_of(json, answer))),
+        Call::Pgm => {
+            let (w, h, maximum) = (number("w") as u32, number("h") as u32, number("maximum") as u32);
+            Said::Pgm(Grey { answer, w, h, maximum })
+        }
         _ => Said::Plain(answer),
     }
 }

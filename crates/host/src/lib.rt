@@ -10,6 +10,8 @@ use paint::line_part;
 use paint::member;
 use paint::paint_words;
 use paint::start_of;
+use pgm::Grey;
+use pgm::read_pgm;
 use piece::Found;
 use piece::Piece;
 use piece::piece_at;
@@ -28,6 +30,7 @@ ghost use Rattle.paint.specs.Member.{memberAnswer};
 ghost use Rattle.paint.specs.Paint.{PaintCall};
 ghost use Rattle.olr.specs.File.{WriteCall};
 ghost use Rattle.olr.specs.Read.{ReadCall};
+ghost use Rattle.pgm.specs.Call.{PgmCall};
 ghost use Rattle.host.specs.Piece.{toldPiece};
 ghost use Rattle.host.specs.Part.{partPlace};
 
@@ -207,4 +210,11 @@ pub extern "C" fn loafcanyon_read(file: &[u8], words: &mut [u32]) -> Stored
     ensures { λ r. ⌜ ReadCall (now (file .entry)) (now (words .entry)) r (now (words .exit)) ⌝ }
 {
     read_file(file, words)
+}
+
+#[no_mangle]
+pub extern "C" fn loafcanyon_pgm(file: &[u8], room: &mut [u8]) -> Grey
+    ensures { λ r. ⌜ PgmCall (now (file .entry)) (now (room .entry)) r (now (room .exit)) ⌝ }
+{
+    read_pgm(file, room)
 }

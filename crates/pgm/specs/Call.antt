@@ -46,6 +46,6 @@ module _ (s room : List ℕ) where
   abbrev pub pgmRoom : List ℕ
   pgmRoom = let h = headOf s in afterwards pgmVerdict room (pgmSamples s h ++ drop (h .width * h .height) room)
 
--- what the call answers and leaves: its answer, and the room afterwards (01, Numbers for a refused call; 02, R-6)
+-- what the call answers and leaves: its answer, and the room afterwards (02, R-6)
 abbrev pub PgmCall : List ℕ → List ℕ → Grey → List ℕ → Type 0
 PgmCall s room r room′ = (r ≡ pgmAnswer s room) × (room′ ≡ pgmRoom s room)

@@ -1,5 +1,5 @@
 -- The customer's first demand, of lent memory: a refused call changes none. Assumes nothing.
--- Main laws: `list-kept`, `tree-kept`, `frame-kept`, `paint-kept`, `write-kept`, `read-kept` one for each call that is lent memory to write to, so for the calls for C with the same contracts too. The crossing, the piece,
+-- Main laws: `list-kept`, `tree-kept`, `frame-kept`, `paint-kept`, `write-kept`, `read-kept`, `pgm-kept` one for each call that is lent memory to write to, so for the calls for C with the same contracts too. The crossing, the piece,
 --   the line part and membership are lent nothing to write to: there is nothing to keep.
 -- That a call comes to an end without a fault, whatever it is handed, is the proof of its function, which has no `requires`. That its contract allows some answer for every input needs no law: each contract says that the
 --   result and the last contents are the values of definitions, and those have a value for every input. That it allows no second one is OneAnswer; which number is given is RefusedExactly.
@@ -16,6 +16,7 @@ use Rattle.frame.specs.Frame.{frameVerdict, frameRoom}
 use Rattle.paint.specs.Paint.{paintVerdict, paintRoom}
 use Rattle.olr.specs.File.{writeVerdict, writeRoom}
 use Rattle.olr.specs.Read.{readVerdict, readWords}
+use Rattle.pgm.specs.Call.{pgmVerdict, pgmRoom}
 
 module _ (P : Picture) (ks work out : List ℕ) where
   pub list-kept : listVerdict eight P ks work out .number ≢ 0 → (listWork eight P ks work out ≡ work) × (listWords eight P ks work out ≡ out)
@@ -38,3 +39,6 @@ write-kept w h v ks ws room n = refused-after (writeVerdict w h v ks ws room) ro
 
 pub read-kept : (f out : List ℕ) → readVerdict f out .number ≢ 0 → readWords f out ≡ out
 read-kept f out n = refused-after (readVerdict f out) out _ n
+
+pub pgm-kept : (f room : List ℕ) → pgmVerdict f room .number ≢ 0 → pgmRoom f room ≡ room
+pgm-kept f room n = refused-after (pgmVerdict f room) room _ n

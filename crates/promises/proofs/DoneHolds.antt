@@ -1,6 +1,6 @@
 -- The customer's second and third demand are about the memory that the caller sees: where a call answers 0, the first places of what it was lent hold what the demands speak of, and the rest is as it was. Assumes nothing.
--- Definitions: `Holds` of a buffer; `Property` of a call, `Done` what a contract allows with the number 0 has it; `ListHolds`, `TreeHolds`, `FrameHolds`, `PaintHolds`, `WriteHolds`, `ReadHolds` the property for each call.
--- Main laws: `list-holds`, `tree-holds`, `frame-holds`, `paint-holds`, `write-holds`, `read-holds` of the definitions that the contracts cite; `list-done` and so on of the contracts themselves, as in OneAnswer, `c-list-done`
+-- Definitions: `Holds` of a buffer; `Property` of a call, `Done` what a contract allows with the number 0 has it; `ListHolds`, `TreeHolds`, `FrameHolds`, `PaintHolds`, `WriteHolds`, `ReadHolds`, `PgmHolds` the property for each call.
+-- Main laws: `list-holds`, `tree-holds`, `frame-holds`, `paint-holds`, `write-holds`, `read-holds`, `pgm-holds` of the definitions that the contracts cite; `list-done` and so on of the contracts themselves, as in OneAnswer, `c-list-done`
 --   and so on of the calls for C.
 use mathlib.Core.Path.{_≡_, refl, sym, ap, ap₂, _∙_}
 use mathlib.Core.Bool.{true, _&&_}
@@ -30,6 +30,10 @@ use Rattle.paint.specs.Paint.{painting, paintVerdict, paintAnswer, paintRoom}
 use Rattle.olr.specs.declared.Stored.{Stored}
 use Rattle.olr.specs.File.{file, fileLength, writeVerdict, writeAnswer, writeRoom}
 use Rattle.olr.specs.Read.{fileWords, fileWordCount, readVerdict, readAnswer, readWords}
+use Rattle.pgm.specs.declared.Grey.{Grey}
+use Rattle.pgm.specs.Reader.{headOf}
+use Rattle.pgm.specs.Call.{pgmSamples, pgmVerdict, pgmAnswer, pgmRoom}
+use Rattle.pgm.proofs.Rows.{samples-length}
 use Rattle.olr.proofs.Ascend.{levels-length}
 use Rattle.olr.proofs.Taken.{words-length}
 use Rattle.olr.proofs.There.{file-length}
@@ -40,6 +44,7 @@ use Rattle.tree.proofs.Verdicts.{passed-both}
 use Rattle.frame.proofs as Frame
 use Rattle.paint.proofs as Paint
 use Rattle.olr.proofs as Olr
+use Rattle.pgm.proofs as Pgm
 use Rattle.host.proofs as Host
 use Rattle.promises.proofs.RefusedExactly.{same-number}
 use Rattle.promises.proofs.DemandThree.{Scan}
@@ -111,6 +116,15 @@ read-holds f out e =
     holds-as _ _ _ out _ _ (ap (λ (a : Answer). a .words) (done-answer v (fileWordCount f) (tally (flagged eight) (fileWords f)) d)) refl
     (filled v (fileWordCount f) (fileWords f) out (words-length f) d)
 
+pub pgm-holds : (f room : List ℕ) → pgmAnswer f room .answer .number ≡ 0
+    → Holds (pgmAnswer f room .width * pgmAnswer f room .height) (pgmSamples f (headOf f)) room (pgmRoom f room)
+pgm-holds f room e =
+    let v = pgmVerdict f room in
+    let h = headOf f in
+    let d : v .number ≡ 0 = sym (same-number v 0 0) ∙ e in
+    let n = ap₂ (λ (x y : ℕ). x * y) (done-after v 0 (h .width) d) (done-after v 0 (h .height) d) in
+    holds-as _ _ _ room _ _ n refl (filled v (h .width * h .height) (pgmSamples f h) room (samples-length f (h .plain) (h .width * h .height) (h .at)) d)
+
 -- ---- of the contracts: a property of the parameters, the result and the parameters afterwards, for a signature with what is lent
 abbrev pub Property : Ended → Type 1
 Property T = (κs : Lfts (T .signature .lifetimes)) → Args (T .signature) κs → Res (T .signature) κs → AtExit T κs → Type 0
@@ -177,6 +191,13 @@ read-done κs (f, (words, u)) z ws p e =
     let q = ap (λ (s : Stored). s .answer) (p .0) in
     holds-as _ _ _ _ _ _ (ap (λ (a : Answer). a .words) q) (p .1) (read-holds (now f) (now words) (number-of (z .answer) _ q e))
 
+abbrev pub PgmHolds : Property Pgm.read_pgm.ended
+PgmHolds κs (f, (room, u)) z (f′, (room′, u′)) = Holds (z .width * z .height) (pgmSamples (now f) (headOf (now f))) (now room) (now room′)
+
+pub pgm-done : Done Pgm.read_pgm.ended Pgm.read_pgm.Reads.Learnt (λ κs z. z .answer .number) PgmHolds
+pgm-done κs (f, (room, u)) z ws p e =
+    holds-as _ _ _ _ _ _ (ap (λ (s : Grey). s .width * s .height) (p .0)) (p .1) (pgm-holds (now f) (now room) (number-of (z .answer) _ (ap (λ (s : Grey). s .answer) (p .0)) e))
+
 -- ---- the calls for C, with the same contracts
 pub c-list-done : Done Host.loafcanyon_list.ended Host.loafcanyon_list.Reads.Learnt (λ κs z. z .number) ListHolds
 c-list-done = list-done
@@ -195,3 +216,6 @@ c-write-done = write-done
 
 pub c-read-done : Done Host.loafcanyon_read.ended Host.loafcanyon_read.Reads.Learnt (λ κs z. z .answer .number) ReadHolds
 c-read-done = read-done
+
+pub c-pgm-done : Done Host.loafcanyon_pgm.ended Host.loafcanyon_pgm.Reads.Learnt (λ κs z. z .answer .number) PgmHolds
+c-pgm-done = pgm-done

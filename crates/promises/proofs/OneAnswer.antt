@@ -18,6 +18,7 @@ use Rattle.piece.proofs as Piece
 use Rattle.piece.proofs.Back.{foundBy, found-back}
 use Rattle.paint.proofs as Paint
 use Rattle.olr.proofs as Olr
+use Rattle.pgm.proofs as Pgm
 use Rattle.form.proofs as Form
 use Rattle.text.proofs as Text
 use Rattle.host.proofs as Host
@@ -83,6 +84,9 @@ write-one = settled Olr.write_file.ended Olr.write_file.Reads.Learnt (λ κs a z
 pub read-one : Settled Olr.read_file.ended Olr.read_file.Reads.Learnt
 read-one = settled Olr.read_file.ended Olr.read_file.Reads.Learnt (λ κs a z ws p. (p .0, λ i. (tt, (p .1 i, tt))))
 
+pub pgm-one : Settled Pgm.read_pgm.ended Pgm.read_pgm.Reads.Learnt
+pgm-one = settled Pgm.read_pgm.ended Pgm.read_pgm.Reads.Learnt (λ κs a z ws p. (p .0, λ i. (tt, (p .1 i, tt))))
+
 -- ---- the calls of the listing program
 pub form-one : Settled Form.read_form.ended Form.read_form.Reads.Learnt
 form-one = settled Form.read_form.ended Form.read_form.Reads.Learnt (λ κs a z ws p. (p, refl))
@@ -126,3 +130,6 @@ c-write-one = write-one
 
 pub c-read-one : Settled Host.loafcanyon_read.ended Host.loafcanyon_read.Reads.Learnt
 c-read-one = read-one
+
+pub c-pgm-one : Settled Host.loafcanyon_pgm.ended Host.loafcanyon_pgm.Reads.Learnt
+c-pgm-one = pgm-one

@@ -1,8 +1,8 @@
 -- The customer's first demand, of refusals: each number of the paper's table is given exactly when its row says so and no earlier row of the call's order does. Assumes nothing.
 -- Definitions: `numbers` the numbers of rows; `Exactly` what is said of a call: its numbers in the paper's order, which of them is answered, with what, and when the call is done; `single` each number stands once.
 -- Main laws: `exactly` it holds of every answer that is made from rows whose numbers differ; `list-exactly`, `tree-exactly`, `frame-exactly`, `crossing-exactly`, `piece-exactly`, `member-exactly`, `paint-exactly`,
---   `write-exactly`, `read-exactly` it for each call with an answer, of the rows in the call's definition; `part-exactly` the line part, whose 11 is an empty part alone; `c-piece-exactly`, `c-part-exactly` the two calls for
---   C that tell their answers in another form, where the other eight have the base's; `crossing-nothing`, `piece-nothing`, `part-nothing`, `member-nothing`, `read-nothing` what the answer else holds where it is refused;
+--   `write-exactly`, `read-exactly`, `pgm-exactly` it for each call with an answer, of the rows in the call's definition; `part-exactly` the line part, whose 11 is an empty part alone; `c-piece-exactly`, `c-part-exactly` the two calls for
+--   C that tell their answers in another form, where the other nine have the base's; `crossing-nothing`, `piece-nothing`, `part-nothing`, `member-nothing`, `read-nothing`, `pgm-nothing` what the answer else holds where it is refused;
 --   `same-number`, `refuses` the number answered is the verdict's.
 use mathlib.Core.Path.{_≡_, refl, sym, ap, subst, _∙_}
 use mathlib.Core.Bool.{Bool, true, false, not, _&&_}
@@ -35,6 +35,7 @@ use Rattle.paint.specs.Paint.{paintRows, paintAnswer}
 use Rattle.paint.proofs.Parts.{part-empty, part-some, part-nowhere}
 use Rattle.olr.specs.File.{writeRows, writeAnswer}
 use Rattle.olr.specs.Read.{fileWordCount, fileWords, readRows, readVerdict, readAnswer}
+use Rattle.pgm.specs.Call.{pgmRows, pgmVerdict, pgmAnswer}
 use Rattle.host.specs.Piece.{toldPiece}
 use Rattle.host.specs.Part.{partPlace}
 
@@ -166,6 +167,9 @@ module _ (w h : ℕ) (ws : List ℕ) where
 pub read-exactly : (f out : List ℕ) → Exactly (12 ∷ 13 ∷ 14 ∷ 8 ∷ 6 ∷ []) (readRows f out) (readAnswer f out .answer)
 read-exactly f out = exactly _ (readRows f out) _ _ refl refl
 
+pub pgm-exactly : (f room : List ℕ) → Exactly (22 ∷ 1 ∷ 9 ∷ 23 ∷ 24 ∷ []) (pgmRows f room) (pgmAnswer f room .answer)
+pgm-exactly f room = exactly _ (pgmRows f room) _ _ refl refl
+
 none-left : (n : ℕ) (ws : List ℕ) → length (part eight n ws) ≡ 0 → tally (flagged eight) ws ≤ n
 none-left n ws e =
     by-test (ltb n (tally (flagged eight) ws))
@@ -209,3 +213,10 @@ read-nothing f out q =
     let v = readVerdict f out in
     let n : v .number ≢ 0 = refuses v (fileWordCount f) (tally (flagged eight) (fileWords f)) q in
     (refused-after v 0 _ n, refused-after v 0 _ n, refused-after v 0 _ n, refused-after v 0 _ n, refused-after v (replicate 255 0) _ n)
+
+pub pgm-nothing : (f room : List ℕ) → pgmAnswer f room .answer .number ≢ 0
+    → (pgmAnswer f room .width ≡ 0) × (pgmAnswer f room .height ≡ 0) × (pgmAnswer f room .maximum ≡ 0)
+pgm-nothing f room q =
+    let v = pgmVerdict f room in
+    let n : v .number ≢ 0 = refuses v 0 0 q in
+    (refused-after v 0 _ n, refused-after v 0 _ n, refused-after v 0 _ n)

@@ -22,6 +22,8 @@ use Rattle.paint.specs.Paint.{paintVerdict}
 use Rattle.olr.specs.declared.Stored.{Stored}
 use Rattle.olr.specs.File.{writeVerdict}
 use Rattle.olr.specs.Read.{readVerdict}
+use Rattle.pgm.specs.declared.Grey.{Grey}
+use Rattle.pgm.specs.Call.{pgmVerdict}
 use Rattle.trace.proofs as Trace
 use Rattle.tree.proofs as Tree
 use Rattle.frame.proofs as Frame
@@ -29,10 +31,11 @@ use Rattle.crossing.proofs as Crossing
 use Rattle.piece.proofs as Piece
 use Rattle.paint.proofs as Paint
 use Rattle.olr.proofs as Olr
+use Rattle.pgm.proofs as Pgm
 use Rattle.form.proofs as Form
 use Rattle.host.proofs as Host
 use Rattle.promises.proofs.RefusedExactly.{refuses}
-use Rattle.promises.proofs.DemandOne.{list-kept, tree-kept, frame-kept, paint-kept, write-kept, read-kept}
+use Rattle.promises.proofs.DemandOne.{list-kept, tree-kept, frame-kept, paint-kept, write-kept, read-kept, pgm-kept}
 
 -- T a signature with what is lent, C a contract of it; `number` the number that a result tells, `same` a call's parameters after it, taken as parameters
 module _ (T : Ended) (C : (κs : Lfts (T .signature .lifetimes)) → Args (T .signature) κs → Res (T .signature) κs → AtExit T κs → Type 0)
@@ -89,6 +92,11 @@ read-keeps κs (file, (words, u)) z ws p q =
     let n = refused-by (readVerdict (now file) (now words)) _ _ (z .answer) (ap (λ (s : Stored). s .answer) (p .0)) q in
     λ i. (file, (at-last words ((p .1 ∙ read-kept (now file) (now words) n) i), u))
 
+pub pgm-keeps : Keeps Pgm.read_pgm.ended Pgm.read_pgm.Reads.Learnt (λ κs z. z .answer .number) (λ κs e. e)
+pgm-keeps κs (file, (room, u)) z ws p q =
+    let n = refused-by (pgmVerdict (now file) (now room)) 0 0 (z .answer) (ap (λ (s : Grey). s .answer) (p .0)) q in
+    λ i. (file, (at-last room ((p .1 ∙ pgm-kept (now file) (now room) n) i), u))
+
 -- ---- the calls for C, with the same contracts
 pub c-list-keeps : Keeps Host.loafcanyon_list.ended Host.loafcanyon_list.Reads.Learnt (λ κs z. z .number) (λ κs e. e)
 c-list-keeps = list-keeps
@@ -107,6 +115,9 @@ c-write-keeps = write-keeps
 
 pub c-read-keeps : Keeps Host.loafcanyon_read.ended Host.loafcanyon_read.Reads.Learnt (λ κs z. z .answer .number) (λ κs e. e)
 c-read-keeps = read-keeps
+
+pub c-pgm-keeps : Keeps Host.loafcanyon_pgm.ended Host.loafcanyon_pgm.Reads.Learnt (λ κs z. z .answer .number) (λ κs e. e)
+c-pgm-keeps = pgm-keeps
 
 -- ---- the calls that are lent nothing to write to
 pub crossing-reads : OnlyReads Crossing.crossing_at.ended Crossing.crossing_at.Reads.Learnt (λ κs e. e)

@@ -4,7 +4,7 @@ use std::ffi::OsStr;
 
 use crate::error::Error;
 use crate::library::{self, Answer};
-use crate::pgm::{self, Header};
+use crate::pgm::{self, Picture};
 use crate::room::{room, Room};
 use crate::{input, words};
 
@@ -12,9 +12,9 @@ pub struct Matte {
     pub name: String,
     pub w: usize,
     pub h: usize,
-    /// The file, samples from `start` on, so that they need not be copied.
-    bytes: Room<u8>,
-    start: usize,
+    /// The greatest value that the file says; samples are as they stand there.
+    pub maximum: u32,
+    px: Room<u8>,
 }
 
 impl Matte {
@@ -22,31 +22,25 @@ impl Matte {
     pub fn open(path: &OsStr) -> Result<Matte, Error> {
         let name = input::name(path);
         let bytes = input::read(path, pgm::LONGEST)?;
-        let Header { w, h, start } = pgm::header(&bytes).map_err(|text| Error::refused(&name, text))?;
-        Ok(Matte { name, w, h, bytes, start })
+        let Picture { w, h, maximum, px } = pgm::read(&name, &bytes)?;
+        Ok(Matte { name, w, h, maximum, px })
     }
 
     pub fn samples(&self) -> &[u8] {
-        &self.bytes[self.start..]
+        &self.px
     }
 
     /// The same picture with a border of one value.
     pub fn framed(self) -> Result<Matte, Error> {
         let mut framed = room(self.samples().len())?;
         self.allow(&library::frame(self.w, self.h, self.samples(), &mut framed))?;
-        Ok(Matte { bytes: framed, start: 0, ..self })
+        Ok(Matte { px: framed, ..self })
     }
 
     /// An answer of a call on this picture: done, or why not.
     pub fn allow(&self, answer: &Answer) -> Result<(), Error> {
-        let (w, h) = (self.w, self.h);
         let text = match answer.number {
             0 => return Ok(()),
-            2 => {
-                let (needed, there) = (w as u128 * h as u128, self.samples().len());
-                let more = if self.bytes.len() < pgm::LONGEST { "" } else { " or more" };
-                format!("{w} by {h} are {needed} samples, and there are {there}{more}: make the file again")
-            }
             3 => return Err(Error::by_call("--levels", answer)),
             4 | 17 | 18 | 19 => self.border(answer),
             _ => return Err(Error::by_call(&self.name, answer)),

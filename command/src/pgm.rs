@@ -1,65 +1,61 @@
-//! PGM files: P5 with a greatest value of 255.
-//!
-//! Taken are `P5`, width, height and 255 with white space between, one white space byte, then the samples. Comments, P2 and other
-//! greatest values are not.
+//! PGM files: read by the library's call, and written.
 
 use crate::error::Error;
+use crate::library::{self, Answer};
 use crate::output::Sink;
+use crate::room::{room, Room};
 
-/// The longest file that is read: all samples of the largest picture, and more than any header has. What is longer
-/// has too many samples, which the call says.
-pub const LONGEST: usize = 2048 * 2048 + 4096;
+/// The samples of the largest picture.
+const SAMPLES: usize = 2048 * 2048;
 
-pub struct Header {
+/// The longest file that is read: 16 bytes for each sample of the largest picture. What is longer is read up to there, so that an endless input comes to an end too.
+pub const LONGEST: usize = 16 * SAMPLES;
+
+pub struct Picture {
     pub w: usize,
     pub h: usize,
-    /// Where the samples start.
-    pub start: usize,
+    /// The greatest value that the file says.
+    pub maximum: u32,
+    pub px: Room<u8>,
 }
 
-/// The header, or what is wrong with it and what to do.
-pub fn header(bytes: &[u8]) -> Result<Header, String> {
-    match bytes.get(..2) {
-        Some(b"P5") => {}
-        Some(b"P2") => {
-            return Err("it is a plain PGM (P2), and only binary ones (P5) are taken: pamtopnm makes it one".into())
+/// The picture in a file.
+pub fn read(name: &str, file: &[u8]) -> Result<Picture, Error> {
+    // Pages that no sample is written to are never had.
+    let mut px = room(SAMPLES)?;
+    let said = library::pgm(file, &mut px);
+    if said.answer.number != 0 {
+        return Err(refused(name, file, &said.answer));
+    }
+    let (w, h) = (said.width as usize, said.height as usize);
+    px.truncate(w * h);
+    Ok(Picture { w, h, maximum: said.maximum, px })
+}
+
+/// Why it is refused, at which byte, and what to do.
+fn refused(name: &str, file: &[u8], answer: &Answer) -> Error {
+    let at = answer.place;
+    let text = match (answer.number, file.get(at)) {
+        (22, _) if at < 2 => "it does not begin with P5 or P2, so it is no PGM: convert it to one".into(),
+        (22, None) => format!("it ends at byte {at}, within its header: fetch it again"),
+        (22, Some(b'0'..=b'9')) if at > 2 => {
+            format!("the greatest value, at byte {at}, is not 1 to 255: pamdepth 255 makes it so")
         }
-        _ => return Err("it does not begin with P5, so it is no binary PGM: convert it to one of 8 bits".into()),
-    }
-    let mut at = 2;
-    let w = number(bytes, &mut at, "width")?;
-    let h = number(bytes, &mut at, "height")?;
-    let most = number(bytes, &mut at, "greatest value")?;
-    if most != 255 {
-        return Err(format!("its greatest value is {most}, and only 255 is taken: pamdepth 255 makes it so"));
-    }
-    match bytes.get(at) {
-        Some(byte) if white(*byte) => Ok(Header { w, h, start: at + 1 }),
-        _ => Err(format!("byte {at} is not the white space that ends the header: make the file again")),
-    }
+        (22, _) => format!("byte {at} is not what the header has there: make the file again"),
+        (23, _) => format!("the sample at byte {at} is above the greatest value of the header: make the file again"),
+        (24, None) if file.len() == LONGEST => {
+            format!(
+                "its first {LONGEST} bytes do not hold all samples, and no more are read: pamtopnm makes it shorter"
+            )
+        }
+        (24, None) => format!("it ends at byte {at}, before its last sample: fetch it again"),
+        (24, _) => format!("byte {at} is no part of a sample: make the file again"),
+        _ => return Error::by_call(name, answer),
+    };
+    Error::numbered(name, text, answer.number)
 }
 
-/// The next number, with at least one white space before it.
-fn number(bytes: &[u8], at: &mut usize, what: &str) -> Result<usize, String> {
-    let rest = &bytes[*at..];
-    let blank = rest.iter().take_while(|&&byte| white(byte)).count();
-    let digits = rest[blank..].iter().take_while(|byte| byte.is_ascii_digit()).count();
-    let text = std::str::from_utf8(&rest[blank..blank + digits]).unwrap_or_default();
-    let value = if blank > 0 { text.parse().ok() } else { None };
-    let start = *at + blank;
-    *at = start + digits;
-    value.ok_or_else(|| match bytes.get(start) {
-        Some(b'#') => format!("byte {start} begins a comment, and comments are not taken: pamtopnm writes none"),
-        _ => format!("byte {start} is not the {what} that the header has there: make the file again"),
-    })
-}
-
-/// White space as Netpbm has it.
-fn white(byte: u8) -> bool {
-    matches!(byte, b' ' | b'\t' | b'\n' | 0x0b | 0x0c | b'\r')
-}
-
-pub fn write(out: &mut Sink, w: usize, h: usize, px: &[u8]) -> Result<(), Error> {
-    write!(out, "P5\n{w} {h}\n255\n")?;
+pub fn write(out: &mut Sink, w: usize, h: usize, maximum: u32, px: &[u8]) -> Result<(), Error> {
+    write!(out, "P5\n{w} {h}\n{maximum}\n")?;
     out.bytes(px)
 }

@@ -18,5 +18,5 @@ pub const COMMAND: Command = Command {
 fn run(args: &Args) -> Result<(), Error> {
     let path = args.output_file()?;
     let framed = Matte::open(&args.named()[0])?.framed()?;
-    output::save(path, |out| pgm::write(out, framed.w, framed.h, framed.samples()))
+    output::save(path, |out| pgm::write(out, framed.w, framed.h, framed.maximum, framed.samples()))
 }

@@ -24,5 +24,5 @@ fn run(args: &Args) -> Result<(), Error> {
     if answer.number != 0 {
         return Err(Error::by_call(name, &answer));
     }
-    output::save(path, |out| pgm::write(out, w, h, &px))
+    output::save(path, |out| pgm::write(out, w, h, 255, &px))
 }

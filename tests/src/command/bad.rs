@@ -36,39 +36,45 @@ fn refused(desk: &mut Desk, name: &str, parts: &[&str]) {
 fn pictures(desk: &mut Desk, picture: &Picture) {
     refused(desk, "missing.pgm", &["no such file"]);
     refused(desk, "folder", &["folder"]);
-    refused(desk, "/dev/zero", &["does not begin with P5"]);
+    refused(desk, "/dev/zero", &["does not begin with P5 or P2", "(refusal 22)"]);
     let whole = picture.pgm();
     let with = |header: &str| [header.as_bytes(), &picture.px].concat();
     let short =
         [(0, "does not begin with P5"), (1, "does not begin with P5"), (2, "byte 2"), (4, "byte 4"), (12, "byte 12")];
     for (length, part) in short {
         desk.put("bad.pgm", &whole[..length]);
-        refused(desk, "bad.pgm", &[part]);
+        refused(desk, "bad.pgm", &[part, "(refusal 22)"]);
     }
-    let cases: [(Vec<u8>, &[&str]); 14] = [
-        (whole[..whole.len() - 1].to_vec(), &["120 samples", "119", "(refusal 2)"]),
-        ([&whole[..], b"\n"].concat(), &["120 samples", "121", "(refusal 2)"]),
-        (with("P5\n9 10\n255\n"), &["90 samples", "120", "(refusal 2)"]),
+    let last = format!("ends at byte {}", whole.len() - 1);
+    let cases: [(Vec<u8>, &[&str]); 15] = [
+        (whole[..whole.len() - 1].to_vec(), &[&last, "before its last sample", "(refusal 24)"]),
+        (with("P5\n13 10\n255\n"), &["ends at byte 133", "(refusal 24)"]),
         (with("P5\n1 120\n255\n"), &["side", "(refusal 1)"]),
         (with("P5\n0 0\n255\n"), &["side", "(refusal 1)"]),
         (with("P5\n2049 2\n255\n"), &["side", "(refusal 1)"]),
-        (with("P5\n99999999999999999999 2\n255\n"), &["byte 3 is not the width"]),
+        (with("P5\n99999999999999999999 2\n255\n"), &["side", "(refusal 1)"]),
         (with("P6\n12 10\n255\n"), &["does not begin with P5"]),
-        (with("P2\n12 10\n255\n"), &["plain PGM (P2)"]),
-        (with("P5\n# a comment\n12 10\n255\n"), &["byte 3 begins a comment"]),
-        (with("P5\n12 10\n15\n"), &["greatest value is 15", "only 255"]),
-        (with("P5\n12 10\n65535\n"), &["greatest value is 65535", "only 255"]),
-        (with("P5\n-12 10\n255\n"), &["byte 3 is not the width"]),
-        (with("P512 10\n255\n"), &["byte 2 is not the width"]),
+        (b"P2\n3 2\n255\n1 2 3 4 5".to_vec(), &["ends at byte 20", "(refusal 24)"]),
+        (b"P2\n3 2\n255\n1 2 3 # 4\n5 6".to_vec(), &["byte 17 is no part of a sample", "(refusal 24)"]),
+        (b"P2\n3 2\n9\n1 2 3 10 5 6".to_vec(), &["sample at byte 15 is above", "(refusal 23)"]),
+        (with("P5\n# a comment 12 10 255 "), &["ends at byte", "within its header", "(refusal 22)"]),
+        (with("P5\n12 10\n0\n"), &["at byte 9", "not 1 to 255", "(refusal 22)"]),
+        (with("P5\n12 10\n65535\n"), &["at byte 9", "not 1 to 255", "(refusal 22)"]),
+        (with("P5\n-12 10\n255\n"), &["byte 3 is not what the header has", "(refusal 22)"]),
+        (with("P512 10\n255\n"), &["byte 2 is not what the header has", "(refusal 22)"]),
     ];
     for (bytes, parts) in cases {
         desk.put("bad.pgm", &bytes);
         refused(desk, "bad.pgm", parts);
     }
     let mut endless = b"P5\n12 10\n255\n".to_vec();
-    endless.resize(6_000_000, 0);
+    endless.resize(80_000_000, 0);
     let seen = desk.run_on(&["list", "-", "--levels", "9"], &endless);
-    desk.holds("too long an input", seen.told(1, &["standard input", "120 samples", "or more", "(refusal 2)"]));
+    desk.holds("bytes after the last sample are not read", seen.done());
+    let mut spaces = b"P2\n12 10\n255\n".to_vec();
+    spaces.resize(80_000_000, b' ');
+    let seen = desk.run_on(&["list", "-", "--levels", "9"], &spaces);
+    desk.holds("too long an input", seen.told(1, &["standard input", "no more are read", "(refusal 24)"]));
 }
 
 /// A border that is not of one value is told with its first sample that differs, and by its edge.

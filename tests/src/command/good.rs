@@ -143,13 +143,29 @@ fn sides(desk: &mut Desk, rng: &mut Rng) {
         let seen = desk.run(&["list", "m.pgm", "--levels", "8", "-o", "m.olr"]);
         desk.same(&format!("list {w} by {h}"), &seen.out, Expected::of(&picture, &[8]).summary("8").as_bytes());
     }
-    let mut spaced = b"P5 \t3\r\n\n3\x0b 255\t".to_vec();
+    let mut spaced = b"P5 \t3\r\n\n3\n 255\t".to_vec();
     spaced.extend([0, 0, 0, 0, 9, 0, 0, 0, 0]);
     let seen = desk.run_on(&["list", "-", "--levels", "5", "--text"], &spaced);
     desk.holds(
         "white space in the header",
         seen.text() == "3 3 0 1 4 1\n0 5 0 U 4\n0 1 S 11 18\n1 1 E 7 18\n1 1 N 7 18\n1 0 W 11 18\n",
     );
+    // Samples stay as they are, whatever the greatest value.
+    for text in [
+        "P2#c\n3 3 15\n0 0 0\r\n0 009 0 0 0 0",
+        "P2 3 3 255 0 0 0 0 9 0 0 0 0 and more",
+        "P2\n# two\n# lines\r3 3\n9\n0 0 0 0 9 0 0 0 0\n",
+    ] {
+        let plain = desk.run_on(&["list", "-", "--levels", "5", "--text"], text.as_bytes());
+        desk.holds("a plain PGM", plain.done() && plain.text() == seen.text());
+    }
+    for command in [&["tree", "-"][..], &["svg", "-", "-o", "-"], &["pick", "-", "1", "1"]] {
+        let with = |input: &[u8]| desk.run_on(&[command, &["--levels", "5"]].concat(), input);
+        let (seen, due) = (with(b"P2 3 3 9 0 0 0 0 9 0 0 0 0"), with(&spaced));
+        desk.same("a plain PGM as the binary one", &seen.out, &due.out);
+    }
+    let seen = desk.run_on(&["frame", "-", "-o", "-"], b"P2 3 2 9\n1 2 3 4 5 9");
+    desk.same("frame keeps the greatest value", &seen.out, b"P5\n3 2\n9\n\x03\x03\x03\x03\x03\x03");
 }
 
 fn standard_streams(desk: &mut Desk, picture: &Picture) {

@@ -13,6 +13,7 @@ pub fn all(desk: &mut Desk) {
         return;
     }
     netpbm(desk);
+    vendors(desk);
     let mut rendered = false;
     for renderer in [RSVG, CHROMIUM] {
         if there(renderer.program) {
@@ -56,6 +57,47 @@ fn netpbm(desk: &mut Desk) {
         let stepped: Vec<u16> = matte.iter().map(|&sample| (sample > level) as u16).collect();
         desk.holds(&format!("painted at {level}, read by Netpbm"), painted.len() == 160 * 120 && painted == stepped);
     }
+}
+
+/// Pictures that other programs make are read as Netpbm reads them: both forms, comments in odd places, CR LF, small greatest values.
+fn vendors(desk: &mut Desk) {
+    let magick = there("convert");
+    if !magick {
+        println!("skipped: pictures by ImageMagick, which is missing");
+    }
+    for maximum in [1, 15, 254, 255] {
+        shell(
+            desk,
+            &format!("pamdepth {maximum} ramp.pgm > raw.pgm && pamdepth -plain {maximum} ramp.pgm > plain.pgm"),
+        );
+        shell(desk, r"{ printf 'P2#v\r\n# two words\r'; tail -n +2 plain.pgm | sed 's/$/\r/'; } > lines.pgm");
+        let start = format!(r"printf 'P5 # a vendor\n160#wide\n# high\r 120\t{maximum} '");
+        shell(desk, &format!("{{ {start}; tail -n +4 raw.pgm; }} > noted.pgm"));
+        for name in ["raw.pgm", "plain.pgm", "lines.pgm", "noted.pgm"] {
+            read_alike(desk, name, "raw.pgm", maximum);
+        }
+        if magick {
+            for form in ["", "-compress none"] {
+                shell(desk, &format!("convert raw.pgm -set comment 'a vendor' {form} m.pgm"));
+                let said = String::from_utf8_lossy(&shell(desk, "pamfile m.pgm")).into_owned();
+                let maximum = said.trim().rsplit(' ').next().and_then(|number| number.parse().ok()).unwrap_or(0);
+                read_alike(desk, "m.pgm", "m.pgm", maximum);
+            }
+        }
+    }
+}
+
+/// The command reads a picture as Netpbm reads the same in its own form, and keeps the greatest value.
+fn read_alike(desk: &mut Desk, name: &str, same: &str, maximum: u32) {
+    let what = format!("{name}, greatest value {maximum}");
+    let seen = desk.run(&["frame", name, "-o", "framed.pgm"]);
+    desk.holds(&format!("frame of {what}, which said {}", seen.err), seen.done());
+    let kind = String::from_utf8_lossy(&shell(desk, "pamfile framed.pgm")).into_owned();
+    desk.holds(&format!("{what}: {kind}"), kind.contains(&format!("PGM raw, 160 by 120  maxval {maximum}\n")));
+    let inner = |name: &str| shell(desk, &format!("pamcut -left 1 -top 1 -width 158 -height 118 {name}"));
+    let (seen, due) = (inner("framed.pgm"), inner(same));
+    desk.holds(&format!("{what}, cut by Netpbm"), !due.is_empty());
+    desk.same(&format!("{what}, the inner samples"), &seen, &due);
 }
 
 /// The samples of a plain PGM.

@@ -1,7 +1,7 @@
 //! The bars that the library is held to.
 
 use crate::errand::Errand;
-use crate::measure::{Figures, FileFigures, Framing};
+use crate::measure::{Figures, FileFigures, Framing, Reading};
 
 /// A limit, and what was seen.
 pub struct Bar {
@@ -32,6 +32,9 @@ const BESIDES: f64 = 5.0;
 
 /// What framing may take of a plain copy's time.
 const FRAME: f64 = 1.1;
+
+/// What reading a binary PGM may take of a plain copy's time, and a plain one of a plain parser's.
+const PGM: (f64, f64) = (1.2, 1.5);
 
 /// What the command may take of the time of its calls and of plain reading and writing.
 const COMMAND: f64 = 1.5;
@@ -97,6 +100,18 @@ impl Framing {
     }
 }
 
+impl Reading {
+    fn bars(&self) -> [Bar; 3] {
+        let bar =
+            |what: &str, limit, seen| Bar { what: format!("{what}, {}", self.picture), limit, seen, at_most: true };
+        [
+            bar("P5/copy", PGM.0, self.binary / self.copy),
+            bar("P5 below 255/copy", PGM.0, self.below / self.copy),
+            bar("P2/plain parser", PGM.1, self.plain / self.parser),
+        ]
+    }
+}
+
 impl Errand {
     pub fn bar(&self) -> Bar {
         let what = format!("command/calls, {}, {} levels", self.picture, self.levels);
@@ -105,7 +120,7 @@ impl Errand {
 }
 
 /// Every bar of the calls, with what was seen.
-pub fn all(seen: &[Figures], framed: &Framing) -> Vec<Bar> {
+pub fn all(seen: &[Figures], framed: &Framing, read: &Reading) -> Vec<Bar> {
     let (flat, crossed): (Vec<&Figures>, Vec<&Figures>) = seen.iter().partition(|f| f.passes.is_some());
     let mut bars: Vec<Bar> = crossed.iter().map(|f| f.list_bar()).collect();
     bars.extend(crossed.iter().filter_map(|f| f.paint_bar()));
@@ -117,6 +132,7 @@ pub fn all(seen: &[Figures], framed: &Framing) -> Vec<Bar> {
         Some(f.bar("list/passes", (BESIDES + levels) / levels, f.list / f.passes?))
     }));
     bars.push(framed.bar());
+    bars.extend(read.bars());
     bars
 }
 

@@ -43,6 +43,7 @@ fn main() -> ExitCode {
     seen.extend(measure::whole(&pictures::flat(), &[1, 8, 32, 255], pace));
     let framed = measure::framing(&terrain, pace);
     let refused = border::refusal(pictures::flat(), pace);
+    let read = measure::reading(&matte, pace);
     let grown = measure::growth(&terrain, &[256, 512, 1024, 2048], 8, pace);
     report::lists(&seen);
     report::paints(&seen);
@@ -51,9 +52,10 @@ fn main() -> ExitCode {
     report::flat(&seen);
     report::framing(&framed);
     report::refusal(&refused);
+    report::reading(&read);
     report::growth(&grown);
     report::errand(&errand);
-    let mut bars = bars::all(&seen, &framed);
+    let mut bars = bars::all(&seen, &framed, &read);
     bars.push(refused.bar());
     bars.push(errand.bar());
     report::bars(&bars);

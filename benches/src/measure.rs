@@ -99,6 +99,42 @@ pub fn framing(picture: &Picture, pace: Pace) -> Framing {
     Framing { picture: picture.name, samples: picture.samples(), frame, copy }
 }
 
+/// Reading PGM files, timed in turns with a plain copy of the samples and a plain parser of the text; times in seconds.
+pub struct Reading {
+    pub picture: &'static str,
+    /// Of the plain file.
+    pub bytes: usize,
+    pub binary: f64,
+    /// The binary file with a maximum below 255, so that samples are looked at.
+    pub below: f64,
+    pub copy: f64,
+    pub plain: f64,
+    pub parser: f64,
+}
+
+/// The picture as PGM files of both forms.
+pub fn reading(picture: &Picture, pace: Pace) -> Reading {
+    eprintln!("bench: {}, PGM files", picture.name);
+    let below: Vec<u8> = picture.px.iter().map(|&v| v.min(254)).collect();
+    let head = |form: usize, most: usize| format!("P{form}\n{} {}\n{most}\n", picture.w, picture.h).into_bytes();
+    let files = [[head(5, 255), picture.px.clone()].concat(), [head(5, 254), below.clone()].concat()];
+    let rows = picture.px.chunks(17).map(|row| row.iter().map(|v| format!("{v} ")).collect::<String>() + "\n");
+    let (start, text) = (head(2, 255).len(), [head(2, 255), rows.collect::<String>().into_bytes()].concat());
+    let mut room = vec![0; picture.samples()];
+    for (file, due) in [(&files[0], &picture.px), (&files[1], &below), (&text, &picture.px)] {
+        assert!(library::pgm(file, &mut room).answer.number == 0 && room == *due, "a PGM is not read right");
+    }
+    let [binary, below, copy] = pace.share(0.4).least([0, 1, 2], |call| match call {
+        0 | 1 => drop(black_box(library::pgm(&files[call], &mut room))),
+        _ => plain::copy(black_box(&picture.px), black_box(&mut room)),
+    });
+    let [plain, parser] = pace.share(0.4).least([true, false], |reads| match reads {
+        true => drop(black_box(library::pgm(&text, &mut room))),
+        false => assert!(plain::parse(black_box(&text[start..]), 255, black_box(&mut room)) == 0),
+    });
+    Reading { picture: picture.name, bytes: text.len(), binary, below, copy, plain, parser }
+}
+
 /// How listing, painting and the tree grow: the middle of a picture at several sizes.
 pub fn growth(picture: &Picture, sides: &[usize], count: usize, pace: Pace) -> Vec<Figures> {
     let grown = sides.iter().map(|&side| {

@@ -22,6 +22,27 @@ pub fn copy(px: &[u8], room: &mut [u8]) {
     }
 }
 
+/// The samples of a plain PGM, from its first on, written as they are read: 0 where they all are there and fit.
+pub fn parse(text: &[u8], maximum: usize, room: &mut [u8]) -> usize {
+    let mut at = 0;
+    for place in room.iter_mut() {
+        while at < text.len() && matches!(text[at], b' ' | b'\t' | b'\n' | b'\r') {
+            at += 1;
+        }
+        let start = at;
+        let mut value = 0;
+        while at < text.len() && text[at].is_ascii_digit() {
+            value = (value * 10 + usize::from(text[at] - b'0')).min(65_535);
+            at += 1;
+        }
+        if at == start || value > maximum {
+            return 1;
+        }
+        *place = value as u8;
+    }
+    0
+}
+
 /// One pass over all samples: the least and the greatest.
 pub fn ends(px: &[u8]) -> (u8, u8) {
     px.iter().fold((255, 0), |(least, most), &v| (v.min(least), v.max(most)))

@@ -3,7 +3,7 @@
 use crate::bars::Bar;
 use crate::border::Refusal;
 use crate::errand::Errand;
-use crate::measure::{Figures, FileFigures, Framing};
+use crate::measure::{Figures, FileFigures, Framing, Reading};
 
 /// One row for each picture and number of levels.
 fn rows(title: &str, heads: &str, seen: &[Figures], row: impl Fn(&Figures) -> Option<String>) {
@@ -82,6 +82,13 @@ pub fn refusal(r: &Refusal) {
     println!("\nRefused for the last corner of the border");
     println!("{:<8} {:>9} {:>11} {:>12}", "picture", "us", "look, us", "refuse/look");
     println!("{:<8} {:>9.2} {:>11.2} {:>12.2}", r.picture, r.refuse * 1e6, r.look * 1e6, r.ratio());
+}
+
+pub fn reading(r: &Reading) {
+    println!("\nPGM files\n{:<8} {:>9} {:>9} {:>9} {:>9}", "picture", "P5 ms", "below 255", "P2 ms", "ns/byte");
+    let byte = r.plain * 1e9 / r.bytes as f64;
+    let [binary, below, plain] = [r.binary, r.below, r.plain].map(|time| time * 1e3);
+    println!("{:<8} {binary:>9.2} {below:>9.2} {plain:>9.2} {byte:>9.2}", r.picture);
 }
 
 pub fn growth(seen: &[Figures]) {

@@ -1,5 +1,5 @@
 -- A picture and its levels. Assumes nothing.
--- Definitions: `Picture` sides and samples, `picture` makes one; `size` how many samples there are to be; `at` the sample at a place; `high` it is above a level; `onBorder` a place lies on the
+-- Definitions: `Picture` sides and samples, `picture` makes one; `mostPlaces` the most samples that one can have; `size` how many samples there are to be; `at` the sample at a place; `high` it is above a level; `onBorder` a place lies on the
 --   border; `sideFits`, `samplesFit`, `levelsFit` what refusals 1 to 3 ask; `borderFits` what 4 asked before it was split by edge, and what the laws of lines ask.
 use mathlib.Core.Bool.{Bool, true, not, _&&_, _||_}
 use mathlib.Core.List.{List, [], _∷_}
@@ -21,6 +21,10 @@ picture w h px = record { w = w; h = h; px = px }
 -- sides are 2 to 2,048 (01, Picture, levels, edgels)
 abbrev pub sideFits : ℕ → Bool
 sideFits n = leb 2 n && leb n 2048
+
+-- so no picture has more than 2,048 rows of 2,048 samples
+abbrev pub mostPlaces : ℕ
+mostPlaces = 4194304
 
 -- levels are below the largest sample and ascend strictly: each is at least `low`, which is one more than the level before (01, Picture, levels, edgels)
 unfoldable pub ascend : Layout → ℕ → List ℕ → Bool

@@ -6,7 +6,7 @@ use mathlib.Core.List.{List}
 use Prim.Native.Nat.{ℕ, _+_, _-_, _≤_, _<_}
 use native.Mathlib.Omega.{arith}
 use lib.ListN.{length}
-use Rattle.matte.specs.Picture.{Picture, at}
+use Rattle.matte.specs.Picture.{Picture, mostPlaces, at}
 use Rattle.edgel.specs.declared.Heading.{Heading}
 use Rattle.edgel.specs.declared.Heading.the-variants.{South, East, North, West}
 use Rattle.edgel.specs.Heading.{left, ahead}
@@ -51,7 +51,7 @@ module _ (P : Picture) where
 
 pub record Here (px : List ℕ) (w : ℕ) (g : Heading) (i : ℕ) : Type 0 where
   pub wide : w ≤ 2048
-  pub few : length px ≤ 4194304
+  pub few : length px ≤ mostPlaces
   pub back : entry w g (entered w g i) ≡ i
   pub inside : entered w g i + w + 1 < length px
 

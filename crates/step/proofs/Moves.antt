@@ -16,6 +16,7 @@ use mir.Val.{Fits, SFits, toZ, ofZ}
 use mir.ValLaws.{toZ-ofZ, toZ-pos}
 use Rattle.edgel.specs.declared.Heading.{Heading}
 use Rattle.edgel.specs.declared.Heading.the-variants.{South, East, North, West}
+use Rattle.matte.specs.Picture.{mostPlaces}
 use Rattle.edgel.specs.Heading.{left, number, dx, dy, ahead}
 use Rattle.step.specs.declared.Move.{Move}
 
@@ -82,7 +83,7 @@ minus-one : (n : ℕ) → negsuc 0 *ℤ pos (suc n) ≡ negsuc n
 minus-one n = ap (λ (m : ℕ). negℤ (pos m)) (let e : 1 * suc n ≡ suc n = omega arith in e)
 
 -- the move must be one that can be taken back
-plainly : (w : ℕ) (g : Heading) (i : ℕ) → w ≤ 2048 → i < 4194304 → ahead w (left (left g)) (ahead w g i) ≡ i → Moved (ahead w g i) (pos i) (dx g) (dy g) (pos w)
+plainly : (w : ℕ) (g : Heading) (i : ℕ) → w ≤ 2048 → i < mostPlaces → ahead w (left (left g)) (ahead w g i) ≡ i → Moved (ahead w g i) (pos i) (dx g) (dy g) (pos w)
 plainly w South i hw hi e = steps (i + w) (pos i) (pos 0) (pos 1) (pos w) (pos i) (pos w) (small i (omega arith)) (small w (omega arith)) (small (i + w) (omega arith)) (ap pos (omega arith)) (ap pos (omega arith)) refl
 plainly w East i hw hi e = steps (i + 1) (pos i) (pos 1) (pos 0) (pos w) (pos (i + 1)) (pos 0) (small (i + 1) (omega arith)) (small 0 (omega arith)) (small (i + 1) (omega arith)) refl (ap pos (omega arith)) (ap pos (omega arith))
 plainly zero North i hw hi e = steps (i - 0) (pos i) (pos 0) (negsuc 0) (pos 0) (pos i) (pos 0) (small i (omega arith)) (small 0 (omega arith)) (small (i - 0) (omega arith)) (ap pos (omega arith)) refl (ap pos (omega arith))
@@ -90,7 +91,7 @@ plainly (suc w) North i hw hi e = steps (i - suc w) (pos i) (pos 0) (negsuc 0) (
 plainly w West i hw hi e = steps (i - 1) (pos i) (negsuc 0) (pos 0) (pos w) (pos (i - 1)) (pos 0) (small (i - 1) (omega arith)) (small 0 (omega arith)) (small (i - 1) (omega arith)) (taken i 0 (omega arith)) (ap pos (omega arith)) (ap pos (omega arith))
 
 -- from the move as the table gives it, and the place and the width as the code casts them
-pub moved : (w : ℕ) (g : Heading) (i : ℕ) (x y : ℤ) → x ≡ dx g → y ≡ dy g → w ≤ 2048 → i < 4194304 → ahead w (left (left g)) (ahead w g i) ≡ i
+pub moved : (w : ℕ) (g : Heading) (i : ℕ) (x y : ℤ) → x ≡ dx g → y ≡ dy g → w ≤ 2048 → i < mostPlaces → ahead w (left (left g)) (ahead w g i) ≡ i
     → Moved (ahead w g i) (toZ w64 i) (whole x) (whole y) (toZ w64 w)
 moved w g i x y p q hw hi e =
     let ex : whole x ≡ dx g = ap whole p ∙ whole-dx g in

@@ -9,7 +9,7 @@ use native.Mathlib.Omega.{arith}
 use lib.ListN.{length}
 use borrow.Author.Tests.{eqb-true, eqb-false}
 use Rattle.tally.proofs.Test.{by-test}
-use Rattle.matte.specs.Picture.{Picture, high}
+use Rattle.matte.specs.Picture.{Picture, mostPlaces, high}
 use Rattle.edgel.specs.declared.Heading.{Heading}
 use Rattle.edgel.specs.declared.Heading.the-variants.{South, East, North, West}
 use Rattle.edgel.specs.Heading.{left}
@@ -119,7 +119,7 @@ entered-entry w North t = omega arith
 entered-entry w West t = omega arith
 
 -- t + w + 1 is the place of the last corner of the cell t
-pub ready-in : (px : List ℕ) (w t : ℕ) (s : State) → w ≤ 2048 → length px ≤ 4194304 → t + w + 1 < length px → s .place ≡ entry w (s .heading) t → Ready px w s
+pub ready-in : (px : List ℕ) (w t : ℕ) (s : State) → w ≤ 2048 → length px ≤ mostPlaces → t + w + 1 < length px → s .place ≡ entry w (s .heading) t → Ready px w s
 ready-in px w t s a b l e =
     let m : entered w (s .heading) (s .place) ≡ t = ap (entered w (s .heading)) e ∙ entered-entry w (s .heading) t in
     record { wide = a; few = b; ahead = ap (entry w (s .heading)) m ∙ sym e; inside = omega arith }

@@ -8,7 +8,7 @@ use mathlib.Core.Bool.{Bool}
 use mathlib.Core.List.{List}
 use lib.Dec.{ltb}
 use lib.ListN.{length}
-use Rattle.matte.specs.Picture.{Picture}
+use Rattle.matte.specs.Picture.{Picture, mostPlaces}
 use Rattle.edgel.specs.declared.Heading.{Heading}
 use Rattle.edgel.specs.declared.Heading.the-variants.{South, East, North, West}
 use Rattle.edgel.specs.Edgel.{first, headingAt}
@@ -84,6 +84,6 @@ after P k s = let t = entered (P .w) (s .heading) (s .place) in leaving (P .w) (
 -- there is a cell ahead, and its four corners are samples of the picture
 pub record Ready (px : List ℕ) (w : ℕ) (s : State) : Type 0 where
   pub wide : w ≤ 2048
-  pub few : length px ≤ 4194304
+  pub few : length px ≤ mostPlaces
   pub ahead : entry w (s .heading) (entered w (s .heading) (s .place)) ≡ s .place
   pub inside : entered w (s .heading) (s .place) + w + 1 < length px

@@ -47,7 +47,7 @@ fn go_east(px: &[u8], w: usize, k: u8, words: &mut [u32], n: usize, s: State) ->
 {
     let i = s.place;
     put_tall(words, n, i, k);
-    through(px, w, k, Heading::East, i, i + w, i)
+    through(false, px, w, k as u16, Heading::East, i, i + w, i)
 }
 
 // The same of one that heads west.
@@ -57,7 +57,7 @@ fn go_west(px: &[u8], w: usize, k: u8, words: &mut [u32], n: usize, s: State) ->
 {
     let i = s.place;
     put_tall(words, n, i, k);
-    through(px, w, k, Heading::West, i - 1, i, i + w)
+    through(false, px, w, k as u16, Heading::West, i - 1, i, i + w)
 }
 
 // Stores a crossing of any heading, marks it if it is horizontal, and goes through its cell.
@@ -78,12 +78,12 @@ fn stride(
     match g {
         Heading::South => {
             put_flat(work, words, n, i, k);
-            through(px, w, k, Heading::South, i, i, i + 1)
+            through(false, px, w, k as u16, Heading::South, i, i, i + 1)
         }
         Heading::East => go_east(px, w, k, words, n, s),
         Heading::North => {
             put_flat(work, words, n, i, k);
-            through(px, w, k, Heading::North, i - w, i + 1, i)
+            through(false, px, w, k as u16, Heading::North, i - w, i + 1, i)
         }
         Heading::West => go_west(px, w, k, words, n, s),
     }

@@ -90,7 +90,7 @@ fn note_line(
     while i < limit {
         put_note(px, st, starts, k, n, e, s, words);
         i += 1;
-        s = advance(px, w, k, s);
+        s = advance(false, px, w, k as u16, s);
         if at_lead(s, e) {
             return;
         }

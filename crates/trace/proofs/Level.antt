@@ -25,8 +25,9 @@ use Rattle.outline.proofs.Growing.{linesTo, wordsTo, lines-none, lines-one, lin
 use Rattle.outline.proofs.Words.{encode-length}
 use Rattle.trace.specs.declared.scan.Written.{Written}
 use Rattle.refuse.specs.Shape.{Ground}
-use Rattle.trace.specs.Trace.{upper, Worn, pasted, fresh}
-use Rattle.trace.specs.Search.{Stale}
+use Rattle.follow.specs.Words.{upper, pasted}
+use Rattle.seek.specs.Search.{fresh, Stale}
+use Rattle.trace.specs.Level.{Worn}
 use Rattle.count.proofs.Flat.{border-of, cut-above}
 use Rattle.trace.proofs.Scanning.{own, own-not, own-self, paste-on, fresh-lead, passed, over}
 
@@ -94,24 +95,24 @@ module _ (P : Picture) (G : Ground P) (k : ℕ) (L : Layout) where
       (λ t. t) in
       (ap W s ∙ words-skip P k L (p + n) e ∙ r .0, ap (linesTo P k) s ∙ lines-skip P k (p + n) e ∙ r .1)
 
-  module _ (from lines₀ : ℕ) (work₀ words₀ : List ℕ) (wide : upper P ≤ length work₀) (room : from + length (levelWords L k (lines P k)) ≤ length words₀) where
+  module _ (v from lines₀ : ℕ) (work₀ words₀ : List ℕ) (wide : upper P ≤ length work₀) (room : from + length (levelWords L k (lines P k)) ≤ length words₀) where
     pub record At (p : ℕ) (s : Written) (work words : List ℕ) : Type 0 where
       pub inside : p ≤ upper P
-      pub scanned : Scanned P B k p (marked (own k) work)
+      pub scanned : Scanned P B k p (marked (own v) work)
       pub told : words ≡ pasted words₀ from (W p)
       pub words-so : s .words ≡ from + length (W p)
       pub lines-so : s .lines ≡ lines₀ + length (linesTo P k p)
-      pub worn : Worn (upper P) (k + 1) work₀ work
+      pub worn : Worn (upper P) v work₀ work
 
     pub record Scanning (p : ℕ) (s : Written) (work words : List ℕ) : Type 0 where
       pub stand : At p s work words
       pub leads : p < upper P → isLead P k (2 * p) ≡ true
 
-    pub at-begin : ((i : ℕ) → i < upper P → getD work₀ i 0 ≤ k) → (s : Written) → s .words ≡ from → s .lines ≡ lines₀ → At 0 s work₀ words₀
+    pub at-begin : ((i : ℕ) → i < upper P → getD work₀ i 0 < v) → (s : Written) → s .words ≡ from → s .lines ≡ lines₀ → At 0 s work₀ words₀
     at-begin q s e f =
         record {
           inside = omega arith;
-          scanned = marks-begin P B k (marked (own k) work₀) (λ d o h. own-not k work₀ d (q (first d) (omega (arith, cut-above P G k d o))));
+          scanned = marks-begin P B k (marked (own v) work₀) (λ d o h. own-not v work₀ d (q (first d) (omega (arith, cut-above P G k d o))));
           told = paste-none words₀ from ∙ ap (pasted words₀ from) (sym (words-none P k L));
           words-so = omega (arith, ap length (words-none P k L));
           lines-so = omega (arith, ap length (lines-none P k));
@@ -119,16 +120,16 @@ module _ (P : Picture) (G : Ground P) (k : ℕ) (L : Layout) where
         }
 
     -- over the places that are not fresh, to the next lead or the last row
-    pub to-lead : (i r : ℕ) (s : Written) (work words : List ℕ) → At i s work words → r ≡ firstFrom (fresh (P .px) work k) i (upper P - i) → Scanning r s work words
+    pub to-lead : (i r : ℕ) (s : Written) (work words : List ℕ) → At i s work words → r ≡ firstFrom (fresh (P .px) work k v) i (upper P - i) → Scanning r s work words
     to-lead i r s work words A e =
-        let F = fresh (P .px) work k in
+        let F = fresh (P .px) work k v in
         let n = upper P - i in
         let f = firstFrom F i n in
         let g : i ≤ f = from-ge F i n in
         let h : f ≤ i + n = from-le F i n in
         let u : i + (f - i) ≡ f = omega arith in
-        let S = over P G k work L i (f - i) (A .scanned) (λ j a b. from-before F i n j a (omega arith)) in
-        let M : Scanned P B k f (marked (own k) work) = rw u at (S .scanned) in
+        let S = over P G k v work L i (f - i) (A .scanned) (λ j a b. from-before F i n j a (omega arith)) in
+        let M : Scanned P B k f (marked (own v) work) = rw u at (S .scanned) in
         rw e
         (record {
           stand = record {
@@ -139,7 +140,7 @@ module _ (P : Picture) (G : Ground P) (k : ℕ) (L : Layout) where
             lines-so = A .lines-so ∙ ap (λ (l : List (List ℕ)). lines₀ + length l) (sym (S .lines-same) ∙ ap (linesTo P k) u);
             worn = A .worn;
           };
-          leads = λ t. fresh-lead P G k work f (omega (arith, G .sides .w-least)) M (from-passes F i n (omega (arith, A .inside)));
+          leads = λ t. fresh-lead P G k v work f (omega (arith, G .sides .w-least)) M (from-passes F i n (omega (arith, A .inside)));
         })
 
     module _ (p : ℕ) (s : Written) (work words : List ℕ) (Z : Scanning p s work words) (t : p < upper P) where
@@ -159,32 +160,32 @@ module _ (P : Picture) (G : Ground P) (k : ℕ) (L : Layout) where
       line-room =
           omega (arith, Z .stand .words-so, ap length next-words, length-append (W p) (encode L k true (line P k (2 * p))), encode-length L k true (line P k (2 * p)), words-most (suc p) (omega arith))
 
-      line-scanned : (work′ : List ℕ) → work′ ≡ markAll (k + 1) work (line P k (2 * p)) → Scanned P B k (suc p) (marked (own k) work′)
-      line-scanned work′ u = rw u (place-line P B k (own k) (k + 1) (own-self k) p work (λ c h. omega (arith, in-upper c h, wide, Z .stand .worn .long)) (Z .stand .scanned) lead)
+      line-scanned : (work′ : List ℕ) → work′ ≡ markAll v work (line P k (2 * p)) → Scanned P B k (suc p) (marked (own v) work′)
+      line-scanned work′ u = rw u (place-line P B k (own v) v (own-self v) p work (λ c h. omega (arith, in-upper c h, wide, Z .stand .worn .long)) (Z .stand .scanned) lead)
 
-      pub line-passed : (work′ : List ℕ) → work′ ≡ markAll (k + 1) work (line P k (2 * p)) → Stale (P .px) work′ k 0 (p + 1)
-      line-passed work′ u j g h = passed P G k work′ (suc p) (line-scanned work′ u) j (omega (arith, G .sides .w-least)) (omega arith)
+      pub line-passed : (work′ : List ℕ) → work′ ≡ markAll v work (line P k (2 * p)) → Stale (P .px) work′ k v 0 (p + 1)
+      line-passed work′ u j g h = passed P G k v work′ (suc p) (line-scanned work′ u) j (omega (arith, G .sides .w-least)) (omega arith)
 
       pub at-line : (s′ : Written) (work′ words′ : List ℕ) → s′ .words ≡ s .words + length (line P k (2 * p)) → s′ .lines ≡ s .lines + 1
-          → work′ ≡ markAll (k + 1) work (line P k (2 * p)) → words′ ≡ pasted words (s .words) (encode L k true (line P k (2 * p))) → At (p + 1) s′ work′ words′
-      at-line s′ work′ words′ a b u v =
+          → work′ ≡ markAll v work (line P k (2 * p)) → words′ ≡ pasted words (s .words) (encode L k true (line P k (2 * p))) → At (p + 1) s′ work′ words′
+      at-line s′ work′ words′ a b u x =
           let y : p + 1 ≡ suc p = omega arith in
           let ls = ap length (lines-one P k p lead) in
           rw y
           (record {
             inside = omega arith;
             scanned = line-scanned work′ u;
-            told = v
+            told = x
                 ∙ ap (λ (l : List ℕ). pasted l (s .words) (encode L k true (line P k (2 * p)))) (Z .stand .told)
                 ∙ paste-on words₀ from (s .words) (W p) (encode L k true (line P k (2 * p))) (Z .stand .words-so) (omega (arith, line-room))
                 ∙ ap (pasted words₀ from) (sym next-words);
             words-so = omega (arith, a, Z .stand .words-so, ap length next-words, length-append (W p) (encode L k true (line P k (2 * p))), encode-length L k true (line P k (2 * p)));
             lines-so = omega (arith, b, Z .stand .lines-so, ls, lib.ListN.length-append (linesTo P k p) (line P k (2 * p) ∷ []));
             worn = record {
-              long = ap length u ∙ mark-all-length (k + 1) work (line P k (2 * p)) ∙ Z .stand .worn .long;
-              low = λ i h. rw u (mark-all-low (k + 1) (upper P) work (line P k (2 * p)) (Z .stand .worn .low) i h);
+              long = ap length u ∙ mark-all-length v work (line P k (2 * p)) ∙ Z .stand .worn .long;
+              low = λ i h. rw u (mark-all-low v (upper P) work (line P k (2 * p)) (Z .stand .worn .low) i h);
               rest = ap (drop (upper P)) u
-                  ∙ mark-past (k + 1) work (line P k (2 * p)) (upper P) in-upper
+                  ∙ mark-past v work (line P k (2 * p)) (upper P) in-upper
                   ∙ Z .stand .worn .rest;
             };
           })
@@ -193,7 +194,7 @@ module _ (P : Picture) (G : Ground P) (k : ℕ) (L : Layout) where
       pub words-are : s .words ≡ from + length (levelWords L k (lines P k))
       pub lines-are : s .lines ≡ lines₀ + length (lines P k)
       pub all : words ≡ pasted words₀ from (levelWords L k (lines P k))
-      pub worn : Worn (upper P) (k + 1) work₀ work
+      pub worn : Worn (upper P) v work₀ work
 
     pub at-end : (p : ℕ) (s : Written) (work words : List ℕ) → Scanning p s work words → upper P ≤ p → Done s work words
     at-end p s work words Z h =

@@ -1,11 +1,5 @@
-pub mod Places
-pub mod Tracing
-pub mod Arriving
-pub mod Flag
 pub mod Scanning
 pub mod Level
 pub mod All
 pub mod Refusals
 pub mod Zeros
-pub mod Slots
-pub mod Blocks

@@ -1,5 +1,5 @@
 -- Places of one level that are fresh, and those that are not. Assumes nothing.
--- Definitions: `own` the byte is the level's mark; `Stand` what is unchanged at a later place.
+-- Definitions: `own` the byte is the mark v; `Stand` what is unchanged at a later place.
 -- Main laws: `paste-on` pasting behind what was pasted; `own-self`, `own-not`; `fresh-lead` a fresh place leads, `stale` one that
 --   is not fresh does not; `passed` no place behind is fresh; `over` from a place over those that are not fresh.
 use mathlib.Core.Path.{_≡_, refl, sym, ap, _∙_}
@@ -22,7 +22,8 @@ use Rattle.outline.proofs.Bytes.{marked}
 use Rattle.outline.proofs.Places.{Scanned, place-tell, place-skip, place-past, lead-cut}
 use Rattle.outline.proofs.Growing.{linesTo, wordsTo, lines-skip, words-skip}
 use Rattle.refuse.specs.Shape.{Ground}
-use Rattle.trace.specs.Trace.{pasted, fresh}
+use Rattle.follow.specs.Words.{pasted}
+use Rattle.seek.specs.Search.{fresh}
 use Rattle.count.proofs.Flat.{border-of, crossed-cut, cut-crossed}
 
 -- ---- pasting
@@ -39,34 +40,34 @@ paste-on d n m f g e h =
 
 -- ---- fresh places
 unfoldable pub own : ℕ → ℕ → Bool
-own k v = eqb v (k + 1)
+own v b = eqb b v
 
-pub own-self : (k : ℕ) → own k (k + 1) ≡ true
+pub own-self : (v : ℕ) → own v v ≡ true
 unfolding own
-own-self k = eq-eqb (k + 1) (k + 1) refl
+own-self v = eq-eqb v v refl
 
-pub own-not : (k : ℕ) (work : List ℕ) (d : ℕ) → getD work (first d) 0 ≤ k → marked (own k) work d ≡ false
+pub own-not : (v : ℕ) (work : List ℕ) (d : ℕ) → getD work (first d) 0 < v → marked (own v) work d ≡ false
 unfolding own marked
-own-not k work d h = ne-eqb (getD work (first d) 0) (k + 1) (λ e. omega arith)
+own-not v work d h = ne-eqb (getD work (first d) 0) v (λ e. omega arith)
 
-module _ (P : Picture) (G : Ground P) (k : ℕ) where
+module _ (P : Picture) (G : Ground P) (k v : ℕ) where
   abbrev B : Border P
   B = border-of P G
 
   module _ (work : List ℕ) where
     abbrev m : ℕ → Bool
-    m = marked (own k) work
+    m = marked (own v) work
 
-    mark-is : (i : ℕ) → m (2 * i) ≡ eqb (getD work i 0) (k + 1)
+    mark-is : (i : ℕ) → m (2 * i) ≡ eqb (getD work i 0) v
     unfolding marked own
-    mark-is i = let s : 2 * i / 2 ≡ i = omega arith in ap (λ (z : ℕ). eqb (getD work z 0) (k + 1)) s
+    mark-is i = let s : 2 * i / 2 ≡ i = omega arith in ap (λ (z : ℕ). eqb (getD work z 0) v) s
 
-    pub fresh-lead : (i : ℕ) → i + 1 < size P → Scanned P B k i m → fresh (P .px) work k i ≡ true → isLead P k (2 * i) ≡ true
+    pub fresh-lead : (i : ℕ) → i + 1 < size P → Scanned P B k i m → fresh (P .px) work k v i ≡ true → isLead P k (2 * i) ≡ true
     fresh-lead i l M e =
         let o : cutAt P k (2 * i) ≡ true = crossed-cut P G k i l (and-1 _ _ e) in
         sym (place-tell P B k i m M o) ∙ ap not (mark-is i) ∙ and-2 (differ (high P k i) (high P k (i + 1))) _ e
 
-    pub stale : (i : ℕ) → Scanned P B k i m → fresh (P .px) work k i ≡ false → isLead P k (2 * i) ≡ false
+    pub stale : (i : ℕ) → Scanned P B k i m → fresh (P .px) work k v i ≡ false → isLead P k (2 * i) ≡ false
     stale i M e =
         by-test (isLead P k (2 * i))
         (λ t.
@@ -75,9 +76,9 @@ module _ (P : Picture) (G : Ground P) (k : ℕ) where
         (λ t. t)
 
     -- no place behind is fresh
-    pub passed : (i : ℕ) → Scanned P B k i m → (j : ℕ) → j + 1 < size P → j < i → fresh (P .px) work k j ≡ false
+    pub passed : (i : ℕ) → Scanned P B k i m → (j : ℕ) → j + 1 < size P → j < i → fresh (P .px) work k v j ≡ false
     passed i M j l h =
-        by-test (fresh (P .px) work k j)
+        by-test (fresh (P .px) work k v j)
         (λ e.
         let o : cutAt P k (2 * j) ≡ true = crossed-cut P G k j l (and-1 _ _ e) in
         no (and-2 (differ (high P k j) (high P k (j + 1))) _ e) (ap not (sym (mark-is j) ∙ place-past P B k i m M j o h)))
@@ -90,7 +91,7 @@ module _ (P : Picture) (G : Ground P) (k : ℕ) where
         pub lines-same : linesTo P k j ≡ linesTo P k i
         pub words-same : wordsTo P k L j ≡ wordsTo P k L i
 
-      pub over : (i n : ℕ) → Scanned P B k i m → ((j : ℕ) → i ≤ j → j < i + n → fresh (P .px) work k j ≡ false) → Stand i (i + n)
+      pub over : (i n : ℕ) → Scanned P B k i m → ((j : ℕ) → i ≤ j → j < i + n → fresh (P .px) work k v j ≡ false) → Stand i (i + n)
       over i zero M q = let s : i + 0 ≡ i = omega arith in rw s (record { scanned = M; lines-same = refl; words-same = refl })
       over i (suc n) M q =
           let S = over i n M (λ j a b. q j a (omega arith)) in

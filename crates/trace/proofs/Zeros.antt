@@ -1,18 +1,12 @@
 -- Work bytes set to zero from the front, and the part of them that begins some bytes on. Assumes nothing.
--- Main laws: `drop-later` what is the same from a place on; `cleared-at` each is 0; `cleared-length`, `cleared-rest` the length and the rest are as they were; `part-length`, `part-at` that part's length and bytes; `part-back` bytes past the changed ones are as they were.
+-- Main laws: `cleared-at` each is 0; `cleared-length`, `cleared-rest` the length and the rest are as they were; `part-length`, `part-at` that part's length and bytes; `part-back` bytes past the changed ones are as they were.
 use mathlib.Core.Path.{_≡_, sym, ap, _∙_}
 use mathlib.Core.List.{List, _++_}
 use Prim.Native.Nat.{ℕ, _+_, _-_, _≤_, _<_}
 use native.Mathlib.Omega.{arith}
 use lib.ListN.{length, take, drop, getD, replicate, length-append, length-drop, length-replicate, getD-replicate, take-append-drop, List·getD-append}
 use lib.Seq.{take-all, length-take-le, getD-drop, drop-at, drop-drop, drop-append-add, drop-append-le}
-
--- what is the same from a on is so from any later place on
-pub drop-later : (x y : List ℕ) (a e : ℕ) → a ≤ e → drop a x ≡ drop a y → drop e x ≡ drop e y
-drop-later x y a e h q =
-    let s : a + (e - a) ≡ e = omega arith in
-    let c : (z : List ℕ) → drop e z ≡ drop (e - a) (drop a z) = λ z. ap (λ (n : ℕ). drop n z) (sym s) ∙ sym (drop-drop (e - a) a z) in
-    c x ∙ ap (drop (e - a)) q ∙ sym (c y)
+use Rattle.store.proofs.Splice.{drop-later}
 
 module _ (n : ℕ) (work : List ℕ) where
   abbrev zeros : List ℕ

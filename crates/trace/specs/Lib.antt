@@ -1,4 +1,1 @@
-pub mod Trace
-pub mod Stride
 pub mod Level
-pub mod Search

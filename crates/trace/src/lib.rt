@@ -1,14 +1,7 @@
 // Listing: all lines of all levels, in order, as words.
-mod bounds;
-mod line;
 mod scan;
-mod search;
 
-use bounds::bounds;
-use bounds::slot_of;
 use count::count_words;
-pub use line::at_lead;
-pub use line::lead_state;
 use refuse::Answer;
 use refuse::Verdict;
 use refuse::answered;
@@ -16,14 +9,18 @@ use refuse::area;
 use refuse::ground_verdict;
 use refuse::row_verdict;
 use scan::all_levels;
+use seek::bound_all;
+use seek::slot_of;
+use store::count_of;
 ghost use mathlib.Core.Path.{_≡_};
 ghost use mathlib.Core.List.{_++_};
 ghost use Prim.Native.Nat.{_≤_, _<_};
 ghost use lib.ListN.{length, drop, replicate};
-ghost use Rattle.matte.specs.Layout.{eight};
+ghost use Rattle.matte.specs.Layout.{eight, layoutOf};
 ghost use Rattle.matte.specs.Picture.{picture};
+ghost use Rattle.store.specs.Store.{samplesOf, placesOf};
 ghost use Rattle.outline.specs.List.{listed, listVerdict, ListCall};
-ghost use Rattle.trace.specs.Search.{reach};
+ghost use Rattle.seek.specs.Search.{reach};
 
 // Sets the first n bytes to 0.
 pub fn clear(work: &mut [u8], n: usize)
@@ -86,30 +83,35 @@ pub fn list_verdict(
 
 // Lists a call that is not refused, with room for the bounds of any picture. Marks begin half a row into the work bytes, for speed.
 fn list_lines(
+    wide: bool,
     w: usize,
     h: usize,
     px: &[u8],
     levels: &[u8],
     work: &mut [u8],
+    inb: bool,
     words: &mut [u32],
+    bytes: &mut [u8],
     lo: &mut [u8],
     hi: &mut [u8],
     four: bool,
 ) -> Answer
-    requires { ⌜ (listVerdict eight (picture w h (now px)) (now levels) (now work) (now words) .number ≡ 0) × (reach four (length (now lo)) ≡ 4194304) × (reach four (length (now hi)) ≡ 4194304) ⌝ }
-    ensures { λ r. ⌜ ListCall eight (picture w h (now (px .entry))) (now (levels .entry)) (now (work .entry)) (now (words .entry)) r (now (work .exit)) (now (words .exit)) ⌝ }
+    requires { ⌜ (listVerdict (layoutOf wide) (picture w h (samplesOf wide (now px))) (samplesOf wide (now levels)) (now work) (placesOf inb (now words) (now bytes)) .number ≡ 0) × (length (samplesOf wide (now px)) ≤ layoutOf wide .samples) × (layoutOf wide .samples ≤ reach four (length (samplesOf wide (now lo)))) × (layoutOf wide .samples ≤ reach four (length (samplesOf wide (now hi)))) ⌝ }
+    ensures { λ r. ⌜ ListCall (layoutOf wide) (picture w h (samplesOf wide (now (px .entry)))) (samplesOf wide (now (levels .entry))) (now (work .entry)) (placesOf inb (now (words .entry)) (now (bytes .entry))) r (now (work .exit)) (placesOf inb (now (words .exit)) (now (bytes .exit))) ⌝ }
 {
     let n = area(w, h);
-    clear(work, n);
-    let slots = slot_of(four, (px.len() - w) / 64);
-    bounds(px, lo, hi, four, slots);
+    let slots = slot_of(four, (count_of(wide, px) - w) / 64);
+    bound_all(wide, px, lo, hi, four, slots);
     let s = all_levels(
+        wide,
         px,
         w,
         h,
         levels,
         &mut work[w / 2..],
+        inb,
         words,
+        bytes,
         lo,
         hi,
         four,
@@ -138,7 +140,21 @@ pub fn lean_lines(
 {
     let mut lo = [0u8; 16384];
     let mut hi = [0u8; 16384];
-    list_lines(w, h, px, levels, work, words, &mut lo, &mut hi, true)
+    let mut none = [0u8; 0];
+    list_lines(
+        false,
+        w,
+        h,
+        px,
+        levels,
+        work,
+        false,
+        words,
+        &mut none,
+        &mut lo,
+        &mut hi,
+        true,
+    )
 }
 
 // Lists every line of every level into the lent word places, or refuses and changes nothing. Where nothing is crossed, there is nothing to look for. Bounds are on the stack, for 64 samples each.
@@ -163,5 +179,19 @@ pub fn list(
     }
     let mut lo = [0u8; 65536];
     let mut hi = [0u8; 65536];
-    list_lines(w, h, px, levels, work, words, &mut lo, &mut hi, false)
+    let mut none = [0u8; 0];
+    list_lines(
+        false,
+        w,
+        h,
+        px,
+        levels,
+        work,
+        false,
+        words,
+        &mut none,
+        &mut lo,
+        &mut hi,
+        false,
+    )
 }

@@ -25,7 +25,7 @@ use Rattle.outline.proofs.Levels.{level-below}
 use Rattle.outline.proofs.Lines.{line-long}
 use Rattle.outline.proofs.Places.{line-low}
 use Rattle.refuse.specs.Shape.{Ground}
-use Rattle.trace.proofs.Flag.{line-cons}
+use Rattle.follow.proofs.Flag.{line-cons}
 use Rattle.enclosure.specs.Tree.{firsts, lineCount, levelAt, leadAt, crossingsAt}
 use Rattle.enclosure.proofs.Lines.{Setting, lead-cut}
 use Rattle.enclosure.proofs.Tree.{lineOf}

@@ -29,7 +29,7 @@ use Rattle.outline.specs.Line.{cutAt, line}
 use Rattle.outline.proofs.Paper.{closedAt}
 use Rattle.refuse.specs.Shape.{Ground}
 use Rattle.count.proofs.Flat.{border-of}
-use Rattle.trace.proofs.Tracing.{place-in, ready, onward}
+use Rattle.follow.proofs.Tracing.{place-in, ready, onward}
 use Rattle.tree.specs.Note.{rankAt, noteAt, noted, notedAll}
 
 pub first-on : (g : Heading) (i : ℕ) → first (codeOn g i) ≡ i

@@ -25,7 +25,7 @@ use Rattle.outline.proofs.Levels.{level-below}
 use Rattle.refuse.specs.Shape.{Ground}
 use Rattle.count.proofs.Flat.{border-of, area-most, some, cut-column}
 use Rattle.trace.proofs.All.{eight-fits}
-use Rattle.trace.proofs.Tracing.{place-in}
+use Rattle.follow.proofs.Tracing.{place-in}
 use Rattle.enclosure.specs.Position.{key}
 use Rattle.enclosure.specs.Tree.{firsts, lineCount, levelAt, leadAt, crossingsAt}
 use Rattle.enclosure.specs.Call.{heads}

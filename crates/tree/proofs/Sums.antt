@@ -20,7 +20,7 @@ use Rattle.block.proofs.Bytes.{num4-le4, num4-front, num4-take, num4-after}
 use Rattle.count.specs.Steps.{stepTable}
 use Rattle.count.proofs.Steps.{table-at}
 use Rattle.tree.specs.Note.{Table, Rising, gapAt, gaps, Starts, rankAt}
-use Rattle.trace.proofs.Zeros.{drop-later}
+use Rattle.store.proofs.Splice.{drop-later}
 
 pub gaps-none : (st px : List ℕ) → gaps st px 0 ≡ 0
 unfolding gaps sum

@@ -2,11 +2,11 @@
 use crate::rank::rank_of;
 use crate::rank::run_starts;
 use count::step_table;
+use follow::at_lead;
+use follow::lead_state;
 use step::State;
 use step::advance;
 use step::level;
-use trace::at_lead;
-use trace::lead_state;
 ghost use mathlib.Core.Path.{_≡_};
 ghost use mathlib.Core.Bool.{true};
 ghost use Prim.Native.Nat.{_+_, _*_, _/_, _%_, _≤_, _<_};

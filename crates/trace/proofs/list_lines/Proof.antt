@@ -1,103 +1,116 @@
--- `trace::list_lines` meets its contract: the work bytes are cleared before and after all levels are listed. Assumes nothing.
+-- `trace::list_lines` meets its contract: all levels are listed, and the work bytes are cleared after them. Assumes nothing.
 use mathlib.Core.Path.{_≡_, sym, ap, _∙_}
 use mathlib.Core.List.{List, _++_}
 use Prim.Native.Nat.{ℕ, _+_, _-_, _*_, _/_, _≤_}
 use native.Mathlib.Omega.{arith}
-use lib.ListN.{length, getD, drop, replicate}
+use lib.ListN.{length, drop, replicate}
 use borrow.Author.Needs.{needs}
 use borrow.Rule.Slice.PartMut.{putMid, same-len-mid}
 use Rattle.tally.specs.Tally.{tally}
-use Rattle.matte.specs.Layout.{eight}
-use Rattle.matte.specs.Picture.{picture}
+use Rattle.matte.specs.Layout.{Layout, layoutOf}
+use Rattle.matte.specs.Picture.{Picture, picture}
+use Rattle.refuse.specs.declared.Verdict.{Verdict}
 use Rattle.refuse.proofs.Rows.{done-answer, done-after}
 use Rattle.edgel.specs.Word.{flagged}
 use Rattle.outline.specs.List.{listed, listVerdict}
+use Rattle.store.specs.Store.{samplesOf, placesOf}
+use Rattle.store.proofs.Chunks.{count-same}
 use Rattle.count.proofs.Flat.{area-most}
 use Rattle.count.proofs.Counting.{row-fits}
-use Rattle.trace.specs.Trace.{upper}
-use Rattle.trace.proofs.Slots.{slots-within, reach-back}
-use Rattle.trace.proofs.Refusals.{sound}
-use Rattle.trace.proofs.Zeros.{cleared-at, cleared-length, cleared-rest, part-length, part-at, part-back}
+use Rattle.follow.specs.Words.{upper}
+use Rattle.seek.specs.Search.{reach}
+use Rattle.seek.proofs.Slots.{slots-within, reach-back}
+use Rattle.trace.proofs.All.{layout-fits}
+use Rattle.trace.proofs.Refusals.{Sound, sound}
+use Rattle.trace.proofs.Zeros.{part-length, part-back}
 use Rattle.trace.proofs.list_lines.Statement.{statement}
 use Rattle.trace.proofs.list_lines.Tie as tie
 
-area-requires : tie.Need-area-requires
-area-requires c κs =
-    let a = c .before .before .before .before .before .before .args in
-    let S = sound eight (picture (a .w) (a .h) (a .px .now)) (a .levels .now) (a .work .now) (a .words .now) (c .before .before .before .before .before .before .pre .0) in
-    S .ground .sides
+-- as the call begins: layout, picture, levels, word places, the verdict, and what holds of a call that is not refused
+abbrev L : tie.Start → Layout
+L z = layoutOf (z .args .wide)
 
-clear-requires : tie.Need-clear-requires
-clear-requires c κs =
-    let a = c .before .before .before .before .before .before .before .before .args in
-    let S = sound eight (picture (a .w) (a .h) (a .px .now)) (a .levels .now) (a .work .now) (a .words .now) (c .before .before .before .before .before .before .before .before .pre .0) in
-    let n : c .before .area .result ≡ a .w * a .h = c .before .area .ensures .0 in
-    omega (arith, S .wide)
+abbrev P : tie.Start → Picture
+P z = picture (z .args .w) (z .args .h) (samplesOf (z .args .wide) (z .args .px .now))
+
+abbrev ks : tie.Start → List ℕ
+ks z = samplesOf (z .args .wide) (z .args .levels .now)
+
+abbrev U : tie.Start → List ℕ
+U z = placesOf (z .args .inb) (z .args .words .now) (z .args .bytes .now)
+
+abbrev told : tie.Start → Verdict
+told z = listVerdict (L z) (P z) (ks z) (z .args .work .now) (U z)
+
+abbrev S : (z : tie.Start) → Sound (L z) (P z) (ks z) (z .args .work .now) (U z)
+S z = sound (L z) (P z) (ks z) (z .args .work .now) (U z) (z .pre .0)
+
+half : (z : tie.Start) → z .args .w / 2 ≤ length (z .args .work .now)
+half z = omega (arith, S z .wide, S z .ground .whole, row-fits (S z .ground))
+
+-- once the slots are known: they reach no further than the last row, and there is room for their bounds
+within : (s : tie.After-slot-of) → reach (s .before .before .before .before .before .before .before .before .before .before .args .four) (s .slot-of .result) ≤ length (P (s .before .before .before .before .before .before .before .before .before .before) .px) - s .before .before .before .before .before .before .before .before .before .before .args .w
+within s = omega (arith, s .before .count-of .ensures, slots-within (s .before .before .before .before .before .before .before .before .before .before .args .four) (s .before .count-of .result - s .before .before .before .before .before .before .before .before .before .before .args .w) (s .slot-of .result) (s .slot-of .ensures))
+
+lows : (s : tie.After-slot-of) → s .slot-of .result ≤ length (samplesOf (s .before .before .before .before .before .before .before .before .before .before .args .wide) (s .before .before .before .before .before .before .before .before .before .before .args .lo .now))
+lows s = reach-back (s .before .before .before .before .before .before .before .before .before .before .args .four) _ _ (omega (arith, within s, s .before .before .before .before .before .before .before .before .before .before .pre .1, s .before .before .before .before .before .before .before .before .before .before .pre .2))
+
+highs : (s : tie.After-slot-of) → s .slot-of .result ≤ length (samplesOf (s .before .before .before .before .before .before .before .before .before .before .args .wide) (s .before .before .before .before .before .before .before .before .before .before .args .hi .now))
+highs s = reach-back (s .before .before .before .before .before .before .before .before .before .before .args .four) _ _ (omega (arith, within s, s .before .before .before .before .before .before .before .before .before .before .pre .1, s .before .before .before .before .before .before .before .before .before .before .pre .3))
+
+area-requires : tie.Need-area-requires
+area-requires c κs = S (c .before .before .before .before .before .before .before) .ground .sides
+
+count-of-requires : tie.Need-count-of-requires
+count-of-requires c κs = search needs
 
 sub-slot-of : tie.Need-sub-slot-of
-sub-slot-of c =
-    let a = c .before .before .before .before .before .before .before .before .before .before .before .args in
-    let S = sound eight (picture (a .w) (a .h) (a .px .now)) (a .levels .now) (a .work .now) (a .words .now) (c .before .before .before .before .before .before .before .before .before .before .before .pre .0) in
-    omega (arith, row-fits (S .ground))
+sub-slot-of c = omega (arith, row-fits (S (c .before .before .before .before .before .before .before .before .before) .ground), c .count-of .ensures)
 
 slot-of-requires : tie.Need-slot-of-requires
 slot-of-requires c κs = tt
 
-bounds-requires : tie.Need-bounds-requires
-bounds-requires c κs =
-    let a = c .before .before .before .before .before .before .before .before .before .before .before .before .before .before .args in
-    let S = sound eight (picture (a .w) (a .h) (a .px .now)) (a .levels .now) (a .work .now) (a .words .now) (c .before .before .before .before .before .before .before .before .before .before .before .before .before .before .pre .0) in
-    let q = slots-within (a .four) (length (a .px .now) - a .w) (c .before .before .slot-of .result) (c .before .before .slot-of .ensures) in
-    let m = area-most (S .ground) in
-    (omega (arith, q, row-fits (S .ground), S .ground .sides .w-least), m, reach-back (a .four) _ _ (omega (arith, q, m, c .before .before .before .before .before .before .before .before .before .before .before .before .before .before .pre .1)), reach-back (a .four) _ _ (omega (arith, q, m, c .before .before .before .before .before .before .before .before .before .before .before .before .before .before .pre .2)))
+bound-all-requires : tie.Need-bound-all-requires
+bound-all-requires c κs = let g = S (c .before .before .before .before .before .before .before .before .before .before .before .before) .ground in (omega (arith, within (c .before .before), row-fits g, g .sides .w-least), area-most g, lows (c .before .before), highs (c .before .before))
 
 sub-all-levels : tie.Need-sub-all-levels
-sub-all-levels c =
-    let a = c .before .before .before .before .before .before .before .before .before .before .before .before .before .before .before .before .before .before .before .args in
-    let S = sound eight (picture (a .w) (a .h) (a .px .now)) (a .levels .now) (a .work .now) (a .words .now) (c .before .before .before .before .before .before .before .before .before .before .before .before .before .before .before .before .before .before .before .pre .0) in
-    omega (arith, S .wide, S .ground .whole, row-fits (S .ground), c .before .before .before .before .before .before .before .before .before .before .clear .kept .0)
+sub-all-levels c = omega (arith, half (c .before .before .before .before .before .before .before .before .before .before .before .before .before .before .before .before .before))
 
 part-all-levels-start : tie.Need-part-all-levels-start
-part-all-levels-start c = sub-all-levels c
+part-all-levels-start c = omega (arith, half (c .before .before .before .before .before .before .before .before .before .before .before .before .before .before .before .before .before))
 
 part-all-levels-end : tie.Need-part-all-levels-end
 part-all-levels-end c = search needs
 
 all-levels-requires : tie.Need-all-levels-requires
 all-levels-requires c κs =
-    let a = c .before .before .before .before .before .before .before .before .before .before .before .before .before .before .before .before .before .before .before .before .before .before .before .args in
-    let S = sound eight (picture (a .w) (a .h) (a .px .now)) (a .levels .now) (a .work .now) (a .words .now) (c .before .before .before .before .before .before .before .before .before .before .before .before .before .before .before .before .before .before .before .before .before .before .before .pre .0) in
-    let n : c .before .before .before .before .before .before .before .before .before .before .before .before .before .before .before .before .area .result ≡ a .w * a .h = c .before .before .before .before .before .before .before .before .before .before .before .before .before .before .before .before .area .ensures .0 in
-    let w : c .before .before .before .before .before .before .before .before .before .before .before .before .before .before .clear .last .0 ≡ replicate (a .w * a .h) 0 ++ drop (a .w * a .h) (a .work .now) = c .before .before .before .before .before .before .before .before .before .before .before .before .before .before .clear .ensures ∙ ap (λ (m : ℕ). replicate m 0 ++ drop m (a .work .now)) n in
-    let long : length (c .before .before .before .before .before .before .before .before .before .before .before .before .before .before .clear .last .0) ≡ length (a .work .now) = ap length w ∙ cleared-length (a .w * a .h) (a .work .now) (S .wide) in
-    let fits = row-fits (S .ground) in
-    let q = slots-within (a .four) (length (a .px .now) - a .w) (c .before .before .before .before .before .before .before .before .before .before .before .slot-of .result) (c .before .before .before .before .before .before .before .before .before .before .before .slot-of .ensures) in
-    let m = area-most (S .ground) in
-    let half : a .w / 2 ≤ length (c .before .before .before .before .before .before .before .before .before .before .before .before .before .before .clear .last .0) = omega (arith, S .wide, S .ground .whole) in (
+    let z = c .before .before .before .before .before .before .before .before .before .before .before .before .before .before .before .before .before .before .before .before .before .before in
+    let a = z .args in
+    let T = S z in
+    let g = T .ground in (
       record {
-        ground = S .ground;
-        levels = S .levels;
-        wide = omega (arith, part-length (a .w / 2) (c .before .before .before .before .before .before .before .before .before .before .before .before .before .before .clear .last .0) half, S .wide);
-        clear = λ i h. part-at (a .w / 2) (c .before .before .before .before .before .before .before .before .before .before .before .before .before .before .clear .last .0) half i ∙ ap (λ (l : List ℕ). getD l (a .w / 2 + i) 0) w ∙ cleared-at (a .w * a .h) (a .work .now) (a .w / 2 + i) (omega (arith, S .ground .whole));
-        room = S .room;
+        ground = g;
+        levels = T .levels;
+        fits = layout-fits (a .wide) (P z) (omega (arith, g .whole, z .pre .1));
+        wide = omega (arith, part-length (a .w / 2) (a .work .now) (half z), T .wide);
+        room = T .room;
       },
-      q,
+      within (c .before .before .before .before .before .before .before .before .before .before .before .before),
       record {
-        inside = omega (arith, q, fits, S .ground .sides .w-least);
-        few = m;
-        lo-held = omega (arith, c .before .before .before .before .before .before .before .before .bounds .kept .1 .0, reach-back (a .four) (c .before .before .before .before .before .before .before .before .before .before .before .slot-of .result) (length (a .lo .now)) (omega (arith, q, m, c .before .before .before .before .before .before .before .before .before .before .before .before .before .before .before .before .before .before .before .before .before .before .before .pre .1)));
-        hi-held = omega (arith, c .before .before .before .before .before .before .before .before .bounds .kept .1 .1 .0, reach-back (a .four) (c .before .before .before .before .before .before .before .before .before .before .before .slot-of .result) (length (a .hi .now)) (omega (arith, q, m, c .before .before .before .before .before .before .before .before .before .before .before .before .before .before .before .before .before .before .before .before .before .before .before .pre .2)));
-        lows = c .before .before .before .before .before .before .before .before .bounds .ensures .0;
-        highs = c .before .before .before .before .before .before .before .before .bounds .ensures .1;
+        inside = omega (arith, within (c .before .before .before .before .before .before .before .before .before .before .before .before), row-fits g, g .sides .w-least);
+        few = area-most g;
+        lo-held = omega (arith, lows (c .before .before .before .before .before .before .before .before .before .before .before .before), count-same (a .wide) (c .before .before .before .before .before .before .before .before .before .bound-all .last .1 .1 .0) (a .lo .now) (c .before .before .before .before .before .before .before .before .before .bound-all .kept .1 .1 .0));
+        hi-held = omega (arith, highs (c .before .before .before .before .before .before .before .before .before .before .before .before), count-same (a .wide) (c .before .before .before .before .before .before .before .before .before .bound-all .last .1 .1 .1 .0) (a .hi .now) (c .before .before .before .before .before .before .before .before .before .bound-all .kept .1 .1 .1 .0));
+        lows = c .before .before .before .before .before .before .before .before .before .bound-all .ensures .0;
+        highs = c .before .before .before .before .before .before .before .before .before .bound-all .ensures .1;
       },
     )
 
-clear-requires-2 : tie.Need-clear-requires-2
-clear-requires-2 c κs =
-    let a = c .before .before .before .before .before .before .before .before .before .before .before .before .before .before .before .before .before .before .before .before .before .before .before .before .before .before .before .before .before .args in
-    let S = sound eight (picture (a .w) (a .h) (a .px .now)) (a .levels .now) (a .work .now) (a .words .now) (c .before .before .before .before .before .before .before .before .before .before .before .before .before .before .before .before .before .before .before .before .before .before .before .before .before .before .before .before .before .pre .0) in
-    let n : c .before .before .before .before .before .before .before .before .before .before .before .before .before .before .before .before .before .before .before .before .before .before .area .result ≡ a .w * a .h = c .before .before .before .before .before .before .before .before .before .before .before .before .before .before .before .before .before .before .before .before .before .before .area .ensures .0 in
-    omega (arith, S .wide, c .before .before .before .before .before .before .before .before .before .before .before .before .before .before .before .before .before .before .before .before .clear .kept .0, same-len-mid (a .w / 2) (length (c .before .before .before .before .before .before .before .before .before .before .before .before .before .before .before .before .before .before .before .before .clear .last .0) - a .w / 2) (c .before .before .before .before .before .before .before .before .before .before .before .before .before .before .before .before .before .before .before .before .clear .last .0) (c .before .before .before .before .before .all-levels .last .1 .1 .1 .1 .0) (c .before .before .before .before .before .all-levels .ensures .long))
+clear-requires : tie.Need-clear-requires
+clear-requires c κs =
+    let z = c .before .before .before .before .before .before .before .before .before .before .before .before .before .before .before .before .before .before .before .before .before .before .before .before .before .before .before .before .before .before in
+    let a = z .args in
+    omega (arith, S z .wide, c .before .before .before .before .before .before .before .before .before .before .before .before .before .before .before .before .before .before .before .before .before .before .area .ensures .0, same-len-mid (a .w / 2) (length (a .work .now) - a .w / 2) (a .work .now) (c .before .before .before .before .before .before .before .all-levels .last .1 .1 .1 .1 .1 .0) (c .before .before .before .before .before .before .before .all-levels .ensures .long))
 
 same-length : tie.Need-same-length
 same-length c = search needs
@@ -111,27 +124,27 @@ same-length-3 c = search needs
 same-length-4 : tie.Need-same-length-4
 same-length-4 c = search needs
 
+same-length-5 : tie.Need-same-length-5
+same-length-5 c = search needs
+
 returns : tie.Need-returns
 returns c =
-    let a = c .before .before .before .before .before .before .before .before .before .before .before .before .before .before .before .before .before .before .before .before .before .before .before .before .before .before .before .before .before .before .before .before .args in
-    let e = c .before .before .before .before .before .before .before .before .before .before .before .before .before .before .before .before .before .before .before .before .before .before .before .before .before .before .before .before .before .before .before .before .pre .0 in
-    let S = sound eight (picture (a .w) (a .h) (a .px .now)) (a .levels .now) (a .work .now) (a .words .now) (c .before .before .before .before .before .before .before .before .before .before .before .before .before .before .before .before .before .before .before .before .before .before .before .before .before .before .before .before .before .before .before .before .pre .0) in
-    let n : c .before .before .before .before .before .before .before .before .before .before .before .before .before .before .before .before .before .before .before .before .before .before .before .before .before .area .result ≡ a .w * a .h = c .before .before .before .before .before .before .before .before .before .before .before .before .before .before .before .before .before .before .before .before .before .before .before .before .before .area .ensures .0 in
-    let D = c .before .before .before .before .before .before .before .before .all-levels .ensures in
+    let z = c .before .before .before .before .before .before .before .before .before .before .before .before .before .before .before .before .before .before .before .before .before .before .before .before .before .before .before .before .before .before .before .before .before in
+    let a = z .args in
+    let e = z .pre .0 in
+    let T = S z in
+    let D = c .before .before .before .before .before .before .before .before .before .before .all-levels .ensures in
     let m = a .w * a .h in
-    let w : c .before .before .before .before .before .before .before .before .before .before .before .before .before .before .before .before .before .before .before .before .before .before .before .clear .last .0 ≡ replicate m 0 ++ drop m (a .work .now) = c .before .before .before .before .before .before .before .before .before .before .before .before .before .before .before .before .before .before .before .before .before .before .before .clear .ensures ∙ ap (λ (y : ℕ). replicate y 0 ++ drop y (a .work .now)) n in
-    let work = c .before .before .before .before .before .before .before .before .before .before .before .before .before .before .before .before .before .before .before .before .before .before .before .clear .last .0 in
-    let fits = row-fits (S .ground) in
-    let half : a .w / 2 ≤ length work = omega (arith, S .wide, S .ground .whole, c .before .before .before .before .before .before .before .before .before .before .before .before .before .before .before .before .before .before .before .before .before .before .before .clear .kept .0) in
-    let l = listed eight (picture (a .w) (a .h) (a .px .now)) (a .levels .now) in (
-      ap (λ (y : ℕ). record { number = 0; place = 0; words = y; lines = c .before .before .before .before .before .before .before .before .all-levels .result .lines }) (D .words-are)
+    let work = a .work .now in
+    let l = listed (L z) (P z) (ks z) in (
+      ap (λ (y : ℕ). record { number = 0; place = 0; words = y; lines = c .before .before .before .before .before .before .before .before .before .before .all-levels .result .lines }) (D .words-are)
           ∙ ap (λ (y : ℕ). record { number = 0; place = 0; words = length l; lines = y }) (D .lines-are)
-          ∙ sym (done-answer (listVerdict eight (picture (a .w) (a .h) (a .px .now)) (a .levels .now) (a .work .now) (a .words .now)) (length l) (tally (flagged eight) l) e),
-      c .before .before .clear2 .ensures
-          ∙ ap (λ (y : ℕ). replicate y 0 ++ drop y (putMid (a .w / 2) (length work - a .w / 2) work (c .before .before .before .before .before .before .before .before .all-levels .last .1 .1 .1 .1 .0))) n
-          ∙ ap (λ (y : List ℕ). replicate m 0 ++ y) (part-back (a .w / 2) work half (upper (picture (a .w) (a .h) (a .px .now))) m _ (D .long) (omega (arith, part-length (a .w / 2) work half, S .wide, c .before .before .before .before .before .before .before .before .before .before .before .before .before .before .before .before .before .before .before .before .before .before .before .clear .kept .0)) (omega (arith, S .ground .whole)) (D .rest) ∙ ap (drop m) w ∙ cleared-rest m (a .work .now))
-          ∙ sym (done-after (listVerdict eight (picture (a .w) (a .h) (a .px .now)) (a .levels .now) (a .work .now) (a .words .now)) (a .work .now) (replicate m 0 ++ drop m (a .work .now)) e),
-      D .all ∙ sym (done-after (listVerdict eight (picture (a .w) (a .h) (a .px .now)) (a .levels .now) (a .work .now) (a .words .now)) (a .words .now) (l ++ drop (length l) (a .words .now)) e),
+          ∙ sym (done-answer (told z) (length l) (tally (flagged (L z)) l) e),
+      c .before .before .clear .ensures
+          ∙ ap (λ (y : ℕ). replicate y 0 ++ drop y (putMid (a .w / 2) (length work - a .w / 2) work (c .before .before .before .before .before .before .before .before .before .before .all-levels .last .1 .1 .1 .1 .1 .0))) (c .before .before .before .before .before .before .before .before .before .before .before .before .before .before .before .before .before .before .before .before .before .before .before .before .before .area .ensures .0)
+          ∙ ap (λ (y : List ℕ). replicate m 0 ++ y) (part-back (a .w / 2) work (half z) (upper (P z)) m _ (D .long) (omega (arith, part-length (a .w / 2) work (half z), T .wide)) (omega (arith, T .ground .whole, row-fits (T .ground))) (D .rest))
+          ∙ sym (done-after (told z) work (replicate m 0 ++ drop m work) e),
+      D .all ∙ sym (done-after (told z) (U z) (l ++ drop (length l) (U z)) e),
     )
 
 pub list-lines-spec : {M : Type 1} → statement M
@@ -139,17 +152,18 @@ list-lines-spec =
     tie.close
     (tie.spec
     area-requires
-    clear-requires
+    count-of-requires
     sub-slot-of
     slot-of-requires
-    bounds-requires
+    bound-all-requires
     sub-all-levels
     part-all-levels-start
     part-all-levels-end
     all-levels-requires
-    clear-requires-2
+    clear-requires
     same-length
     same-length-2
     same-length-3
     same-length-4
+    same-length-5
     returns)

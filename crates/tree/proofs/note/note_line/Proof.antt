@@ -9,7 +9,7 @@ use Rattle.matte.specs.Picture.{picture, high}
 use Rattle.outline.specs.Line.{cutAt}
 use Rattle.refuse.specs.Shape.{Ground}
 use Rattle.count.proofs.Flat.{area-most}
-use Rattle.trace.proofs.Tracing.{place-in}
+use Rattle.follow.proofs.Tracing.{place-in}
 use Rattle.tree.proofs.Noting.{Noting, begin, go, stop, never, place-is, flat-here, set-off}
 use Rattle.tree.proofs.note.note_line.Statement.{statement}
 use Rattle.tree.proofs.note.note_line.Tie as tie

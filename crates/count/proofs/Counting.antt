@@ -1,5 +1,5 @@
 -- Counting crossed edgels place by place. Assumes nothing.
--- Main laws: `crossings-sum` the crossed edgels of a level are those that start above the last row, two a place; `pair-most`, `pairs-most`, `all-most` how many they can be; `row-fits` a row is within the picture; `levels-few` there are at most 255 levels;
+-- Main laws: `crossings-sum` the crossed edgels of a level are those that start above the last row, two a place; `pair-most`, `pairs-most`, `all-most` how many they can be; `row-fits` a row is within the picture; `levels-few`, `levels-most` there are at most as many levels as samples have values above 0;
 --   `counted-none`, `counted-more`, `counted-all` the sum over the levels is the length of the list.
 use mathlib.Core.Path.{_≡_, refl, sym, ap, _∙_}
 use mathlib.Core.Bool.{Bool, true, false, _&&_}
@@ -15,7 +15,7 @@ use borrow.Author.Tests.{ltb-true, ltb-false, lt-ltb, le-ltb, leb-true}
 use Rattle.tally.specs.Tally.{one, differ, sum, total}
 use Rattle.tally.proofs.Test.{by-test, no, and-1, and-2, both, one-le, differ-self}
 use Rattle.tally.proofs.Sum.{sum-same, sum-none, sum-cut, sum-even, total-append}
-use Rattle.matte.specs.Layout.{Layout, eight}
+use Rattle.matte.specs.Layout.{Layout, eight, ten, layoutOf}
 use Rattle.matte.specs.Picture.{Picture, size, high, ascend, levelsFit}
 use Rattle.outline.specs.Line.{cutAt}
 use Rattle.outline.specs.List.{listed}
@@ -102,6 +102,10 @@ few L low (k ∷ ks) h e =
 pub levels-few : (L : Layout) (ks : List ℕ) → levelsFit L ks ≡ true → length ks ≤ L .most
 levels-few L ks e = omega (arith, few L 0 ks (omega arith) e)
 
+pub levels-most : (wide : Bool) (ks : List ℕ) → levelsFit (layoutOf wide) ks ≡ true → length ks ≤ 1023
+levels-most true ks e = levels-few ten ks e
+levels-most false ks e = omega (arith, levels-few eight ks e)
+
 pub row-fits : {P : Picture} → Ground P → P .w + P .w ≤ length (P .px)
 row-fits {P} G = omega (arith, G .whole, native.Mathlib.Nat.mul-le-mul-left (P .w) (G .sides .h-least))
 
@@ -118,6 +122,6 @@ module _ (P : Picture) (ks : List ℕ) where
       ∙ total-append (crossings P) (take j ks) (getD ks j 0 ∷ [])
       ∙ omega arith
 
-  pub counted-all : Ground P → (j : ℕ) → length ks ≤ j → total (crossings P) (take j ks) ≡ length (listed eight P ks)
+  pub counted-all : (L : Layout) → Ground P → (j : ℕ) → length ks ≤ j → total (crossings P) (take j ks) ≡ length (listed L P ks)
   unfolding crossings
-  counted-all G j h = ap (total (crossings P)) (take-all j ks h) ∙ sym (listed-length eight P (border-of P G) ks)
+  counted-all L G j h = ap (total (crossings P)) (take-all j ks h) ∙ sym (listed-length L P (border-of P G) ks)

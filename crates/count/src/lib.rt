@@ -4,20 +4,31 @@ mod stepped;
 use stepped::by_steps;
 pub use stepped::gap;
 pub use stepped::step_table;
+use store::count_of;
+use store::pair_at;
+use store::sample;
 ghost use mathlib.Core.Path.{_≡_};
 ghost use mathlib.Core.Bool.{Bool, true, false};
 ghost use Prim.Native.Nat.{ℕ, _+_, _*_, _-_, _≤_, _<_};
 ghost use lib.Dec.{ltb};
 ghost use lib.ListN.{length, getD};
 ghost use Rattle.tally.specs.Tally.{sum, one, differ};
-ghost use Rattle.matte.specs.Layout.{eight};
-ghost use Rattle.matte.specs.Picture.{picture, levelsFit};
+ghost use Rattle.matte.specs.Layout.{eight, layoutOf};
+ghost use Rattle.matte.specs.Picture.{picture, levelsFit, mostPlaces};
 ghost use Rattle.outline.specs.List.{listed};
 ghost use Rattle.refuse.specs.Shape.{Ground};
+ghost use Rattle.store.specs.Store.{pairs, samplesOf};
 ghost use Rattle.count.specs.Count.{crossings, pair, pairAt};
 
 // 1 for true.
 pub fn one_if(b: bool) -> u8
+    ensures { λ r. ⌜ (r ≡ one b) × (r ≤ 1) ⌝ }
+{
+    if b { 1 } else { 0 }
+}
+
+// 1 for true, in 16 bits.
+pub fn one_if16(b: bool) -> u16
     ensures { λ r. ⌜ (r ≡ one b) × (r ≤ 1) ⌝ }
 {
     if b { 1 } else { 0 }
@@ -30,9 +41,16 @@ fn pair_of(a: u8, b: u8, c: u8, k: u8) -> u8
     one_if((k < a) != (k < b)) + one_if((k < a) != (k < c))
 }
 
-// The crossed edgels that start at 64 places from `from` on.
-fn count64(px: &[u8], w: usize, k: u8, from: usize) -> u8
-    requires { ⌜ (from + 64 + w ≤ length (now px)) × (1 ≤ w) × (length (now px) ≤ 4194304) ⌝ }
+// The same of wider samples.
+fn pair_of16(a: u16, b: u16, c: u16, k: u16) -> u16
+    ensures { λ r. ⌜ (r ≡ pair k a b c) × (r ≤ 2) ⌝ }
+{
+    one_if16((k < a) != (k < b)) + one_if16((k < a) != (k < c))
+}
+
+// The crossed edgels that start at 64 places from `from` on, samples of one byte.
+fn count8(px: &[u8], w: usize, k: u8, from: usize) -> u8
+    requires { ⌜ (from + 64 + w ≤ length (now px)) × (1 ≤ w) × (length (now px) ≤ mostPlaces) ⌝ }
     ensures { λ r. ⌜ (r ≡ sum (λ i. pairAt (now (px .entry)) w k (from + i)) 64) × (r ≤ 128) ⌝ }
 {
     let mut n: u8 = 0;
@@ -44,34 +62,64 @@ fn count64(px: &[u8], w: usize, k: u8, from: usize) -> u8
     n
 }
 
-// The crossed edgels of level k: they all start above the last row.
-fn count_level(px: &[u8], w: usize, h: usize, k: u8) -> usize
-    requires { ⌜ Ground (picture w h (now px)) ⌝ }
-    ensures { λ r. ⌜ (r ≡ crossings (picture w h (now (px .entry))) k) × (r ≤ 8388608) ⌝ }
+// The same, samples of two bytes.
+fn count16(px: &[u8], w: usize, k: u16, from: usize) -> u16
+    requires { ⌜ (from + 64 + w ≤ length (pairs (now px))) × (1 ≤ w) × (length (pairs (now px)) ≤ mostPlaces) ⌝ }
+    ensures { λ r. ⌜ (r ≡ sum (λ i. pairAt (pairs (now (px .entry))) w k (from + i)) 64) × (r ≤ 128) ⌝ }
 {
-    let end = px.len() - w;
+    let mut n: u16 = 0;
+    let mut i: usize = 0;
+    while i < 64 {
+        let a = pair_at(px, from + i);
+        let b = pair_at(px, from + i + 1);
+        n += pair_of16(a, b, pair_at(px, from + i + w), k);
+        i += 1;
+    }
+    n
+}
+
+// The same of either width.
+fn count64(wide: bool, px: &[u8], w: usize, k: u16, from: usize) -> u16
+    requires { ⌜ (from + 64 + w ≤ length (samplesOf wide (now px))) × (1 ≤ w) × (length (samplesOf wide (now px)) ≤ mostPlaces) × (k < layoutOf wide .most) ⌝ }
+    ensures { λ r. ⌜ (r ≡ sum (λ i. pairAt (samplesOf wide (now (px .entry))) w k (from + i)) 64) × (r ≤ 128) ⌝ }
+{
+    if wide {
+        return count16(px, w, k, from);
+    }
+    count8(px, w, k as u8, from) as u16
+}
+
+// The crossed edgels of level k: they all start above the last row.
+fn count_level(wide: bool, px: &[u8], w: usize, h: usize, k: u16) -> usize
+    requires { ⌜ (Ground (picture w h (samplesOf wide (now px)))) × (k < layoutOf wide .most) ⌝ }
+    ensures { λ r. ⌜ (r ≡ crossings (picture w h (samplesOf wide (now (px .entry)))) k) × (r ≤ 2 * mostPlaces) ⌝ }
+{
+    let end = count_of(wide, px) - w;
     let mut n: usize = 0;
     let mut a: usize = 0;
     while a + 64 <= end {
-        n += count64(px, w, k, a) as usize;
+        n += count64(wide, px, w, k, a) as usize;
         a += 64;
     }
     while a < end {
-        n += pair_of(px[a], px[a + 1], px[a + w], k) as usize;
+        let p = sample(wide, px, a);
+        let q = sample(wide, px, a + 1);
+        n += pair_of16(p, q, sample(wide, px, a + w), k) as usize;
         a += 1;
     }
     n
 }
 
 // The words of the list, level by level.
-fn by_levels(px: &[u8], w: usize, h: usize, ks: &[u8]) -> usize
-    requires { ⌜ (Ground (picture w h (now px))) × (levelsFit eight (now ks) ≡ true) ⌝ }
-    ensures { λ r. ⌜ r ≡ length (listed eight (picture w h (now (px .entry))) (now (ks .entry))) ⌝ }
+fn by_levels(wide: bool, px: &[u8], w: usize, h: usize, ks: &[u8]) -> usize
+    requires { ⌜ (Ground (picture w h (samplesOf wide (now px)))) × (levelsFit (layoutOf wide) (samplesOf wide (now ks)) ≡ true) ⌝ }
+    ensures { λ r. ⌜ r ≡ length (listed (layoutOf wide) (picture w h (samplesOf wide (now (px .entry)))) (samplesOf wide (now (ks .entry)))) ⌝ }
 {
+    let levels = count_of(wide, ks);
     let mut n: usize = 0;
     let mut j: usize = 0;
-    while j < ks.len() {
-        n += count_level(px, w, h, ks[j]);
+    while j < levels {
+        n += count_level(wide, px, w, h, sample(wide, ks, j));
         j += 1;
     }
     n
@@ -83,7 +131,7 @@ pub fn count_words(px: &[u8], w: usize, h: usize, ks: &[u8]) -> usize
     ensures { λ r. ⌜ r ≡ length (listed eight (picture w h (now (px .entry))) (now (ks .entry))) ⌝ }
 {
     if ks.len() < 4 {
-        return by_levels(px, w, h, ks);
+        return by_levels(false, px, w, h, ks);
     }
     by_steps(px, w, h, ks)
 }

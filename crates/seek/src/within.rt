@@ -4,13 +4,14 @@ use crate::bounds::greater16;
 use crate::bounds::lesser;
 use crate::bounds::lesser16;
 use count::one_if;
+use count::one_if16;
 use store::pair_at;
 ghost use mathlib.Core.Path.{_≡_};
 ghost use mathlib.Core.Bool.{not, _&&_, cond};
 ghost use Prim.Native.Nat.{_+_, _≤_, _<_};
 ghost use lib.Dec.{eqb, ltb};
 ghost use lib.ListN.{length};
-ghost use Rattle.tally.specs.Tally.{one, differ, every};
+ghost use Rattle.tally.specs.Tally.{differ, every};
 ghost use Rattle.matte.specs.Layout.{layoutOf};
 ghost use Rattle.matte.specs.Picture.{mostPlaces};
 ghost use Rattle.store.specs.Store.{pairs, samplesOf};
@@ -42,13 +43,6 @@ fn or_top16(found: bool, i: u16) -> u16
     ensures { λ r. ⌜ r ≡ cond found i 64 ⌝ }
 {
     if found { i } else { 64 }
-}
-
-// 1 for true, in 16 bits.
-pub fn one_if16(b: bool) -> u16
-    ensures { λ r. ⌜ r ≡ one b ⌝ }
-{
-    if b { 1 } else { 0 }
 }
 
 // One of the 64 places from a on is fresh, samples of one byte.

@@ -53,7 +53,7 @@ loop-again c =
     let a = c .before .before .before .before .before .before .before .before .args in
     let l = c .before .before .before .before .before .loop in
     let p : ℕ → Bool = λ j. not (liveAt (pairs (a .lo .now)) (pairs (a .hi .now)) (a .k) (a .c + j)) in
-    (omega arith, any-go p (l .i) (l .any) (liveAt (pairs (a .lo .now)) (pairs (a .hi .now)) (a .k) (a .c + l .i)) _ _ (l .inv .1) refl (c .before .one-if16 .ensures ∙ rw (c .before .before .before .pair-at .ensures, c .before .before .pair-at2 .ensures) refl) (c .greater16 .ensures))
+    (omega arith, any-go p (l .i) (l .any) (liveAt (pairs (a .lo .now)) (pairs (a .hi .now)) (a .k) (a .c + l .i)) _ _ (l .inv .1) refl (c .before .one-if16 .ensures .0 ∙ rw (c .before .before .before .pair-at .ensures, c .before .before .pair-at2 .ensures) refl) (c .greater16 .ensures))
 
 returns : tie.Need-returns Inv-loop μ-loop
 returns c =

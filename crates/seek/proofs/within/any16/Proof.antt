@@ -66,7 +66,7 @@ loop-again c =
     let l = c .before .before .before .before .before .before .before .loop in
     let p : ℕ → Bool = λ j. not (fresh (pairs (a .px .now)) (a .work .now) (a .k) (a .m) (a .a + j)) in
     let e : c .before .before .is-fresh .result ≡ fresh (pairs (a .px .now)) (a .work .now) (a .k) (a .m) (a .a + l .i) = c .before .before .is-fresh .ensures ∙ rw (c .before .before .before .before .before .pair-at .ensures, c .before .before .before .before .pair-at2 .ensures) refl in
-    (omega arith, any-go p (l .i) (l .any) (c .before .before .is-fresh .result) _ _ (l .inv .1) (ap not (sym e)) (c .before .one-if16 .ensures) (c .greater16 .ensures))
+    (omega arith, any-go p (l .i) (l .any) (c .before .before .is-fresh .result) _ _ (l .inv .1) (ap not (sym e)) (c .before .one-if16 .ensures .0) (c .greater16 .ensures))
 
 returns : tie.Need-returns Inv-loop μ-loop
 returns c =

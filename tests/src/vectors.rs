@@ -26,7 +26,7 @@ const FILES: [&str; 14] = [
     include_str!("../vectors/R-05.json"),
 ];
 
-/// Worked cases of change requests, each with all requests landed.
+/// Worked cases of change requests; those that need a request still to come are passed over.
 const REQUESTS: [&str; 1] = [include_str!("../vectors/R-14.json")];
 
 pub fn group(run: &mut Run) {

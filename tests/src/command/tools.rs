@@ -9,7 +9,7 @@ use crate::rng::Rng;
 
 pub fn all(desk: &mut Desk) {
     if !there("pamfile") {
-        println!("skipped: pictures by Netpbm and rendered drawings, since Netpbm is missing");
+        println!("skipped: pictures by Netpbm and by ImageMagick, and rendered drawings, since Netpbm is missing");
         return;
     }
     netpbm(desk);

@@ -1,6 +1,6 @@
 -- Short files worked out: what an edit of the definitions makes false shows here. Assumes nothing.
 -- Definitions: `told` number, place, sides and maximum, and the room afterwards, which had six bytes 77.
--- Main laws: `files-worked` comments, CR LF, leading zeros, an unended comment, an unfit maximum, the one white byte, a side of 30 digits, 23 and 24 in reading order, bytes after the last sample.
+-- Main laws: `files-worked` comments, CR LF, leading zeros, an unended comment, an unfit maximum, the one white byte, a side of 30 digits, 23 and 24 in reading order; `behind-worked` a byte after the last sample.
 use mathlib.Core.Path.{_≡_, refl}
 use mathlib.Core.List.{List, [], _∷_, map}
 use Prim.Native.Nat.{ℕ}
@@ -30,7 +30,6 @@ pub files-worked : map told
     ∷ (80 ∷ 50 ∷ 32 ∷ 50 ∷ 32 ∷ 50 ∷ 32 ∷ 57 ∷ 32 ∷ 49 ∷ 32 ∷ 49 ∷ 48 ∷ [])
     ∷ (80 ∷ 50 ∷ 32 ∷ 50 ∷ 32 ∷ 50 ∷ 32 ∷ 57 ∷ 32 ∷ 49 ∷ 32 ∷ 120 ∷ 32 ∷ 49 ∷ 48 ∷ 32 ∷ 50 ∷ [])
     ∷ (80 ∷ 50 ∷ 32 ∷ 50 ∷ 32 ∷ 50 ∷ 32 ∷ 57 ∷ 57 ∷ 32 ∷ 49 ∷ 32 ∷ 49 ∷ 50 ∷ 120 ∷ 32 ∷ 51 ∷ 32 ∷ 52 ∷ [])
-    ∷ (80 ∷ 53 ∷ 32 ∷ 50 ∷ 32 ∷ 50 ∷ 32 ∷ 57 ∷ 32 ∷ 1 ∷ 2 ∷ 3 ∷ 4 ∷ 120 ∷ [])
     ∷ [])
     ≡
     (0 ∷ 0 ∷ 3 ∷ 2 ∷ 9 ∷ 1 ∷ 2 ∷ 3 ∷ 4 ∷ 5 ∷ 9 ∷ [])
@@ -49,7 +48,10 @@ pub files-worked : map told
     ∷ (23 ∷ 11 ∷ 0 ∷ 0 ∷ 0 ∷ 77 ∷ 77 ∷ 77 ∷ 77 ∷ 77 ∷ 77 ∷ [])
     ∷ (24 ∷ 11 ∷ 0 ∷ 0 ∷ 0 ∷ 77 ∷ 77 ∷ 77 ∷ 77 ∷ 77 ∷ 77 ∷ [])
     ∷ (24 ∷ 14 ∷ 0 ∷ 0 ∷ 0 ∷ 77 ∷ 77 ∷ 77 ∷ 77 ∷ 77 ∷ 77 ∷ [])
-    ∷ (0 ∷ 0 ∷ 2 ∷ 2 ∷ 9 ∷ 1 ∷ 2 ∷ 3 ∷ 4 ∷ 77 ∷ 77 ∷ [])
     ∷ []
 unfolding gapFrom whiteFrom numberFrom fieldsFrom headed headOf samplesFrom rasterFrom
 files-worked = refl
+
+pub behind-worked : told (80 ∷ 53 ∷ 32 ∷ 50 ∷ 32 ∷ 50 ∷ 32 ∷ 57 ∷ 32 ∷ 1 ∷ 2 ∷ 3 ∷ 4 ∷ 120 ∷ []) ≡ 0 ∷ 0 ∷ 2 ∷ 2 ∷ 9 ∷ 1 ∷ 2 ∷ 3 ∷ 4 ∷ 77 ∷ 77 ∷ []
+unfolding gapFrom whiteFrom numberFrom fieldsFrom headed headOf samplesFrom rasterFrom
+behind-worked = refl

@@ -1,9 +1,11 @@
 // Edgels, headings and words.
+#![tactic(auto)]
+
 ghost use Rattle.std.specs.Prelude.{◌≡◌, true, false, ◌+◌, ◌*◌, ◌≤◌, ◌<◌};
 ghost use Rattle.matte.specs.Layout.{eight, layout_of};
 ghost use Rattle.edgel.specs.Heading.{start, left, right, number};
 ghost use Rattle.edgel.specs.Edgel.{edgel};
-ghost use Rattle.edgel.specs.Word.{code_of, level_of, flagged};
+ghost use Rattle.edgel.specs.Word.{word, code_of, level_of, flagged};
 
 // The four headings, in the order in which each is one place left of the one before.
 #[derive(Drop)]
@@ -57,6 +59,22 @@ impl Heading {
             Heading::West => 3,
         }
     }
+}
+
+// The word of a crossing that is not the first of its line.
+pub fn plain_word(code: u32, k: u8) -> u32
+    requires { code < 8388608 }
+    ensures { (result ≡ word eight code k false) × (result < 2147483648) }
+{
+    code + (k as u32) * 8388608
+}
+
+// The word of a line's first crossing.
+pub fn first_word(code: u32, k: u8) -> u32
+    requires { code < 8388608 }
+    ensures { (result ≡ word eight code k true) × (2147483648 ≤ result) }
+{
+    code + (k as u32) * 8388608 + 2147483648
 }
 
 // The code of a word.

@@ -1,4 +1,5 @@
 // Framing: the picture with its border set to the lower median of the border samples.
+#![tactic(auto)]
 ghost use Rattle.std.specs.Prelude.{◌≡◌, true, List, [], ◌∷◌, ℕ, ◌+◌, ◌*◌, ◌≤◌, ◌<◌, eqb, ltb, length, get_or};
 ghost use Rattle.tally.specs.Tally.{one, every, sum};
 ghost use Rattle.fill.specs.Filled.{Filled};

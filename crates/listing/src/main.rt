@@ -1,4 +1,5 @@
 // The listing program: reads levels and a picture, prints the lines.
+#![tactic(auto)]
 ghost use Rattle.std.specs.Prelude.{◌≡◌, length};
 ghost use Rattle.text.specs.Put.{Put};
 ghost use Rattle.listing.specs.Printed.{Rooms, printed};

@@ -1,1 +1,2 @@
 // Layouts and pictures: definitions only.
+#![tactic(auto)]

@@ -1,4 +1,5 @@
 // The outline file, written and read.
+#![tactic(auto)]
 mod get;
 mod put;
 

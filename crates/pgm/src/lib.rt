@@ -1,4 +1,5 @@
 // Reads a PGM file, P5 or P2, up to a maximum of 255, into lent room.
+#![tactic(auto)]
 mod raster;
 mod scan;
 

@@ -1,1 +1,2 @@
 // No code: the promises of the whole, as theorems.
+#![tactic(auto)]

@@ -1,4 +1,5 @@
 // Fractions in lowest terms.
+#![tactic(auto)]
 ghost use Rattle.std.specs.Prelude.{◌≡◌, ◌%◌, min};
 ghost use Rattle.tally.specs.Tally.{apart};
 ghost use Rattle.ratio.specs.Lowest.{gcd, lowest};

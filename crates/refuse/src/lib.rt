@@ -1,4 +1,5 @@
 // Refusals: a call's verdict and answer, and the verdicts of the rows that calls begin with.
+#![tactic(auto)]
 mod fit;
 mod hot;
 

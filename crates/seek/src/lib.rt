@@ -1,4 +1,5 @@
 // The next place whose horizontal edgel is crossed and not visited yet.
+#![tactic(auto)]
 mod bounds;
 mod within;
 

@@ -1,4 +1,5 @@
 // Listing: all lines of all levels, in order, as words.
+#![tactic(auto)]
 mod scan;
 
 ghost use Rattle.std.specs.Prelude.{◌≡◌, ◌++◌, ◌≤◌, ◌<◌, length, drop, replicate};

@@ -1,4 +1,5 @@
 // The test of a word list: codes that name edgels, levels that are listed.
+#![tactic(auto)]
 ghost use Rattle.std.specs.Prelude.{◌≡◌};
 ghost use Rattle.tally.specs.Tally.{first_at};
 ghost use Rattle.matte.specs.Layout.{eight};

@@ -1,5 +1,6 @@
 // Blocks of a file: numbers as bytes, and the check.
 #![tactic(auto)]
+
 ghost use Rattle.std.specs.Prelude.{◌≡◌, ◌+◌, ◌*◌, ◌<◌, ◌≤◌, ◌++◌, length, take, drop, ◌==◌};
 ghost use Rattle.block.specs.Block.{le2, le4, num2, num4, rotate, stir, check, pad, block};
 

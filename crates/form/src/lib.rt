@@ -1,5 +1,6 @@
 // Reads the listing program's input: a line of levels, the header of a PGM, the samples.
 #![tactic(auto)]
+
 ghost use Rattle.std.specs.Prelude.{◌≡◌, ◌+◌, ◌*◌, ◌≤◌, ◌<◌, length, get_or};
 ghost use Rattle.form.specs.Text.{no_form};
 ghost use Rattle.form.specs.Reader.{number_of, stop, begins, no_levels, levels_of, no_header, header_of, form_of};

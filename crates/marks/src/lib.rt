@@ -1,5 +1,6 @@
 // Marks at places: one bit for each place that a picture can have.
 #![tactic(auto)]
+
 ghost use Rattle.std.specs.Prelude.{◌≡◌, false, ◌&&◌, ℕ, ◌+◌, ◌*◌, ◌/◌, ◌≤◌, ◌<◌, eqb, length, get_or};
 ghost use Rattle.tally.specs.Tally.{one, differ};
 ghost use Rattle.marks.specs.Marks.{bit_at, Ahead};

@@ -1,25 +1,26 @@
+use borrow.Author.Rules.{rules}
 use Rattle.std.proofs.Common.{◌/◌, ◌%◌, arith, length-set, rules}
 -- `block::put2` meets its contract. Assumes nothing.
 use Rattle.block.proofs.Put.{put_2}
 use Rattle.block.proofs.put2.Statement.{statement}
 use Rattle.block.proofs.put2.Tie as tie
 
-cast-s : tie.Need-overflow-cast-s
+cast-s : tie.Need-overflow_cast-s
 cast-s c = search rules
 
-slice-write-s : tie.Need-slice-write-s
+slice-write-s : tie.Need-bounds-s-i
 slice-write-s c = search rules
 
-cast-s-2 : tie.Need-overflow-cast-s-2
+cast-s-2 : tie.Need-overflow_cast-s-2
 cast-s-2 c = search rules
 
-add-s : tie.Need-overflow-add-s
+add-s : tie.Need-overflow_add-s
 add-s c = search rules
 
-slice-write-s-2 : tie.Need-slice-write-s-2
+slice-write-s-2 : tie.Need-bounds-s-i-2
 slice-write-s-2 c = simp length-set (omega arith)
 
-same_length : tie.Need-same-length
+same_length : tie.Need-shape_of-s
 same_length c = search rules
 
 returns : tie.Need-returns

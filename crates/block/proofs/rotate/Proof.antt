@@ -3,10 +3,10 @@ use Rattle.std.proofs.Common.{arith}
 use Rattle.block.proofs.rotate.Statement.{statement}
 use Rattle.block.proofs.rotate.Tie as tie
 
-mul-result : tie.Need-overflow-mul-result
+mul-result : tie.Need-overflow_mul-result
 mul-result c = omega arith
 
-add-result : tie.Need-overflow-add-result
+add-result : tie.Need-overflow_add-result
 add-result c = omega arith
 
 returns : tie.Need-returns

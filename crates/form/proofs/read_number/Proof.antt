@@ -8,87 +8,67 @@ use borrow.Author.Rules.{rules}
 use Rattle.form.proofs.read_number.Statement.{statement}
 use Rattle.form.proofs.read_number.Tie as tie
 
-abbrev invariant-loop : tie.invariant-loop
+abbrev invariant-loop : tie.invariant-loop-i
 invariant-loop s limit v₀ i₀ v i = Reading limit s v i
 
-abbrev decreases-loop : tie.decreases-loop
+abbrev decreases-loop : tie.decreases-loop-i
 decreases-loop s limit v₀ i₀ v i = length s - i
 
-byte-at-requires : tie.Need-byte-at-requires invariant-loop decreases-loop
+byte-at-requires : tie.Need-byte_at-requires invariant-loop decreases-loop
 byte-at-requires c κs = search rules
 
-returns : tie.Need-returns invariant-loop decreases-loop
-returns c = read_zero c.before.before.before.args.limit c.before.before.before.args.s.now (omega (arith, c.before.byte_at.ensures, c.if1.true))
+returns : tie.Need-returns-then-byte_at-eq48 invariant-loop decreases-loop
+returns c = read_zero c.args.limit c.args.s.now (omega (arith, c.byte_at.ensures, c.if-byte_at-eq48.true))
 
-loop-holds : tie.Need-loop-init invariant-loop decreases-loop
-loop-holds c = read_begin _ _ (λ e. c.if1.false (c.before.byte_at.ensures ∙ e))
+loop-holds : tie.Need-loop-i-init invariant-loop decreases-loop
+loop-holds c = read_begin _ _ (λ e. c.if-byte_at-eq48.false (c.byte_at.ensures ∙ e))
 
-shared-slice-read-b : tie.Need-shared-slice-read-b invariant-loop decreases-loop
+shared-slice-read-b : tie.Need-bounds-s-i invariant-loop decreases-loop
 shared-slice-read-b c = search rules
 
-cast-b : tie.Need-overflow-cast-b invariant-loop decreases-loop
-cast-b c = omega (arith, c.shared-slice-known2.given c.before.before.loop.i)
+cast-b : tie.Need-overflow_cast-b invariant-loop decreases-loop
+cast-b c = omega (arith, c.shared_slice_known-in-loop-i-1.given c.loop-i.i)
 
 stopped-requires : tie.Need-stopped-requires invariant-loop decreases-loop
 stopped-requires c κs = search rules
 
-returns-2 : tie.Need-returns-2 invariant-loop decreases-loop
-returns-2 c = read_stop _ _ _ _ c.before.before.before.before.loop.invariant _ (below_digits _ c.before.if2.true) c.stopped.ensures
+returns-2 : tie.Need-returns-then-b-lt48 invariant-loop decreases-loop
+returns-2 c = read_stop _ _ _ _ c.loop-i.invariant _ (below_digits _ c.if-b-lt48.true) c.stopped.ensures
 
-stopped-requires-2 : tie.Need-stopped-requires-2 invariant-loop decreases-loop
+stopped-requires-2 : tie.Need-stopped-requires-then-b-gt57 invariant-loop decreases-loop
 stopped-requires-2 c κs = search rules
 
-returns-3 : tie.Need-returns-3 invariant-loop decreases-loop
-returns-3 c = read_stop _ _ _ _ c.before.before.before.before.before.loop.invariant _ (above_digits _ c.before.if3.true) c.stopped2.ensures
+returns-3 : tie.Need-returns-then-b-gt57 invariant-loop decreases-loop
+returns-3 c = read_stop _ _ _ _ c.loop-i.invariant _ (above_digits _ c.if-b-gt57.true) c.stopped-then-b-gt57.ensures
 
-mul_next : tie.Need-overflow-mul-next invariant-loop decreases-loop
+mul_next : tie.Need-overflow_mul-next invariant-loop decreases-loop
 mul_next c = search rules
 
-add-next : tie.Need-overflow-add-next invariant-loop decreases-loop
+add-next : tie.Need-overflow_add-next invariant-loop decreases-loop
 add-next c = search rules
 
-stopped-requires-3 : tie.Need-stopped-requires-3 invariant-loop decreases-loop
+stopped-requires-3 : tie.Need-stopped-requires-then-limit-next invariant-loop decreases-loop
 stopped-requires-3 c κs = search rules
 
-returns-4 : tie.Need-returns-4 invariant-loop decreases-loop
-returns-4 c = read_over _ _ _ _ c.before.before.before.before.before.before.loop.invariant (omega arith) (is_digit_lem _ c.before.before.before.if2.false c.before.before.if3.false) _ c.before.if4.true c.stopped3.ensures
+returns-4 : tie.Need-returns-then-limit-next invariant-loop decreases-loop
+returns-4 c = read_over _ _ _ _ c.loop-i.invariant (omega arith) (is_digit_lem _ c.if-b-lt48.false c.if-b-gt57.false) _ c.if-limit-next.true c.stopped-then-limit-next.ensures
 
-add-i : tie.Need-overflow-add-i invariant-loop decreases-loop
+add-i : tie.Need-overflow_add-i invariant-loop decreases-loop
 add-i c = search rules
 
-loop-less : tie.Need-loop-smaller invariant-loop decreases-loop
+loop-less : tie.Need-loop-i-smaller invariant-loop decreases-loop
 loop-less c = search rules
 
-loop-again : tie.Need-loop-preserved invariant-loop decreases-loop
-loop-again c = read_more _ _ _ _ c.before.before.before.before.before.loop.invariant (omega arith) (is_digit_lem _ c.before.before.if2.false c.before.if3.false) c.if4.false
+loop-again : tie.Need-loop-i-preserved invariant-loop decreases-loop
+loop-again c = read_more _ _ _ _ c.loop-i.invariant (omega arith) (is_digit_lem _ c.if-b-lt48.false c.if-b-gt57.false) c.if-limit-next.false
 
-stopped-requires-4 : tie.Need-stopped-requires-4 invariant-loop decreases-loop
+stopped-requires-4 : tie.Need-stopped-requires-2 invariant-loop decreases-loop
 stopped-requires-4 c κs = search rules
 
-returns-5 : tie.Need-returns-5 invariant-loop decreases-loop
-returns-5 c = read_end _ _ _ _ c.before.before.loop.invariant _ (omega arith) c.stopped4.ensures
+returns-5 : tie.Need-returns invariant-loop decreases-loop
+returns-5 c = read_end _ _ _ _ c.loop-i.invariant _ (omega arith) c.stopped-2.ensures
 
 pub read_number_spec : {M : Type 1} → statement M
 read_number_spec =
     tie.close
-    (tie.spec
-    invariant-loop
-    decreases-loop
-    byte-at-requires
-    returns
-    loop-holds
-    shared-slice-read-b
-    cast-b
-    stopped-requires
-    returns-2
-    stopped-requires-2
-    returns-3
-    mul_next
-    add-next
-    stopped-requires-3
-    returns-4
-    add-i
-    loop-less
-    loop-again
-    stopped-requires-4
-    returns-5)
+    (tie.spec invariant-loop decreases-loop byte-at-requires returns loop-holds shared-slice-read-b cast-b stopped-requires returns-2 stopped-requires-2 returns-3 mul_next add-next stopped-requires-3 returns-4 add-i loop-less loop-again stopped-requires-4 returns-5)

@@ -13,21 +13,21 @@ use Rattle.marks.proofs.ahead_to.Tie as tie
 power : (e : ℕ) → 1 * 2 ^ (e % 64) % 2 ^ 64 ≡ 2 ^ (e % 64)
 power e = shift_fits 1 (e % 64) (omega arith) (omega arith) ∙ one-mul (2 ^ (e % 64))
 
-number-at-requires : tie.Need-number-at-requires
+number-at-requires : tie.Need-number_at-requires
 number-at-requires c κs = search rules
 
-shl-result : tie.Need-overflow-shl-result
+shl-result : tie.Need-overflow_shl-result
 shl-result c = search rules
 
-rem-result : tie.Need-nonzero-rem-result
-rem-result c = omega (arith, power c.before.args.end, pow_pos (c.before.args.end % 64))
+rem-result : tie.Need-nonzero_rem-result-2
+rem-result c = omega (arith, power c.args.end, pow_pos (c.args.end % 64))
 
-shr-result : tie.Need-overflow-shr-result
+shr-result : tie.Need-overflow_shr-result
 shr-result c = search rules
 
 returns : tie.Need-returns
 returns c =
-    let s = c.before in
+    let s = c in
     let n = c.number_at in
     ahead_part _ _ _ n.ensures _ _ s.requires.0 s.requires.1 (power s.args.end)
 

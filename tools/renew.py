@@ -20,7 +20,7 @@ OLDER = {"pre": "requires", "good": "well_formed", "inv": "invariant", "taken": 
 
 def plain(name):
     """A name as the older Rattle wrote it: a dash for each underscore, and no word for the kind of a goal before it."""
-    return re.sub(r"^(overflow|nonzero|part|slice-bounds|offset-bounds)-", "", name.replace("_", "-").lower())
+    return re.sub(r"^(overflow|nonzero|part|slice-bounds|offset-bounds)-", "", re.sub("_lem$", "", name).replace("_", "-").lower())
 
 
 def put(old, new, table):
@@ -29,12 +29,19 @@ def put(old, new, table):
 
 
 def renamed(text, of):
-    needs, fields, places, loops, raw = {}, {}, {}, {}, set()
+    needs, fields, places, loops, raw, kept, callees = {}, {}, {}, {}, set(), {}, {}
     for old, new in of["needs"]:
         put(old, new, needs)
     for place, name in zip(of["places"], of["places_by_name"]):
         put(place[0], name, places)
-        put(place[2][0], place[2][1], fields)
+        old, new = place[2]
+        if place[3] is None and re.fullmatch(re.escape(old) + r"(-[\w-]+)?-\d+", new) and not re.search(r"_known|_told|-arg", old) or re.fullmatch(r"\w+?\d*", old) and place[3] is None and re.search(r"-in-loop-\w+-\d+$", new) and "_known" not in old and "_told" not in old:
+            # the value of a variable, which the arguments and the loops name too
+            put(old, new, kept)
+        else:
+            put(old, new, fields)
+        if place[3] in of["params"]:
+            callees[new] = of["params"][place[3]]
         if place[4]:
             raw.add(place[2][1])
     for (old, new), _ in of["loops"]:
@@ -52,23 +59,29 @@ def renamed(text, of):
 
     text = re.sub(r"(?<![\w.-])tie\.(" + WORD + ")", member, text)
 
-    last = [""]
-
     def field(match):
         before = re.search(r"([^\s(){}\[\],;.`\"]*)$", match.string[:match.start()]).group(1)
         name = match.group(1)
         if before in ("args", "ranges", "tie") or re.match(r"\d", name):
             return match.group(0)
-        name = fields.get(plain(name), name)
+        name = (kept.get(plain(name)) if before == "before" else None) or fields.get(plain(name), name)
         name = OLDER.get(name, name)
         if fields.get(plain(before)) in raw:
             name = {"true": "true-raw", "false": "false-raw", "fact": "true"}.get(name, name)
         return "." + name
 
+    def lent(match):
+        """What a call left in its n-th parameter has the parameter's name."""
+        names, at = callees.get(match.group(1)), match.group(3).count(".1")
+        if not names or at >= len(names):
+            return match.group(0)
+        return f".{match.group(1)}.{match.group(2)}.{names[at]}"
+
     lines = []
     for line in text.split("\n"):
         if not re.match(r"\s*(pub )?use ", line) and not line.lstrip().startswith("--"):
             line = re.sub(r"(?<=[\w)'₀-₉-])\.(" + WORD + ")", field, line)
+            line = re.sub(r"\.(" + WORD + r")\.(new|auto)((?:\.1)*)\.0(?![\w-])", lent, line)
             line = re.sub(r"(?<![\w.])([\w']+)((?:\.before)+)(?=\.(?!before))", r"\1", line)
         lines.append(line)
     return "\n".join(lines)

@@ -14,7 +14,7 @@ use refuse::{Answer, Verdict, answered, level_verdict, row_verdict};
 use words::edgel_fits;
 
 // How a level crosses an edgel: the heading, and the fraction num/den of the way in lowest terms.
-#[derive(Drop)]
+#[derive(Clone, Copy)]
 pub struct Passage {
     pub heading: Heading,
     pub num: u32,
@@ -23,7 +23,7 @@ pub struct Passage {
 
 // The answer: the heading by its number, the fraction num/den of the way in lowest terms, and the point as floats.
 #[repr(C)]
-#[derive(Drop)]
+#[derive(Clone, Copy)]
 pub struct Crossing {
     pub answer: Answer,
     pub heading: u32,

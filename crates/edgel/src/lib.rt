@@ -8,7 +8,7 @@ ghost use Rattle.edgel.specs.Edgel.{edgel};
 ghost use Rattle.edgel.specs.Word.{word, code_of, level_of, flagged};
 
 // The four headings, in the order in which each is one place left of the one before.
-#[derive(Drop)]
+#[derive(Clone, Copy)]
 pub enum Heading {
     South,
     East,

@@ -1,5 +1,6 @@
 // Framing: the picture with its border set to the lower median of the border samples.
 #![tactic(auto)]
+
 ghost use Rattle.std.specs.Prelude.{◌≡◌, true, List, [], ◌∷◌, ℕ, ◌+◌, ◌*◌, ◌≤◌, ◌<◌, eqb, ltb, length, get_or};
 ghost use Rattle.tally.specs.Tally.{one, every, sum};
 ghost use Rattle.fill.specs.Filled.{Filled};
@@ -14,7 +15,7 @@ ghost use Rattle.frame.specs.Framing.{framing};
 use refuse::{Answer, Verdict, area, row_verdict, shape_verdict};
 
 // What a search for the half found: the value, and how many samples are below it.
-#[derive(Drop)]
+#[derive(Clone, Copy)]
 struct Found {
     value: u8,
     below: u32,

@@ -28,7 +28,7 @@ use tree::tree;
 
 // The piece call's answer as plain numbers.
 #[repr(C)]
-#[derive(Drop)]
+#[derive(Clone, Copy)]
 pub struct ToldPiece {
     pub answer: Answer,
     pub kind: u32,
@@ -39,7 +39,7 @@ pub struct ToldPiece {
 
 // Where a line stands in the caller's list, and how many words it has.
 #[repr(C)]
-#[derive(Drop)]
+#[derive(Clone, Copy)]
 pub struct LinePlace {
     pub start: usize,
     pub count: usize,

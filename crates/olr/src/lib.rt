@@ -14,7 +14,7 @@ use refuse::{Answer, answered};
 
 // What reading hands back beside the words: sides, border value, number of levels, and the levels with zeros after the last.
 #[repr(C)]
-#[derive(Drop)]
+#[derive(Clone, Copy)]
 pub struct Stored {
     pub answer: Answer,
     pub width: u32,

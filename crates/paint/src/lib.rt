@@ -20,7 +20,7 @@ use words::{first_bad_code, first_bad_word};
 
 // The answer of membership.
 #[repr(C)]
-#[derive(Drop)]
+#[derive(Clone, Copy)]
 pub struct Membership {
     pub answer: Answer,
     pub inside: bool,

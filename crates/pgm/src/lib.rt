@@ -1,5 +1,6 @@
 // Reads a PGM file, P5 or P2, up to a maximum of 255, into lent room.
 #![tactic(auto)]
+
 mod raster;
 mod scan;
 
@@ -14,7 +15,7 @@ use refuse::{Answer, Verdict, area, row_verdict, sides_verdict};
 use scan::read_head;
 
 // A number: its first byte, its value, and the byte after it. The two bytes are the same where there is none.
-#[derive(Drop)]
+#[derive(Clone, Copy)]
 pub struct Number {
     pub first: usize,
     pub value: usize,
@@ -22,7 +23,7 @@ pub struct Number {
 }
 
 // The header: its form, sides and maximum, and where the samples begin; or that it is none, and the byte at which it gave up.
-#[derive(Drop)]
+#[derive(Clone, Copy)]
 pub struct Head {
     pub ok: bool,
     pub plain: bool,
@@ -34,7 +35,7 @@ pub struct Head {
 
 // The answer of the call: where done, the sides and the maximum.
 #[repr(C)]
-#[derive(Drop)]
+#[derive(Clone, Copy)]
 pub struct Grey {
     pub answer: Answer,
     pub width: u32,

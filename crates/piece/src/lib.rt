@@ -11,14 +11,14 @@ ghost use Rattle.piece.specs.Curve.{over, curved_of, term, mixed, corners_at};
 use refuse::{Answer, Verdict, answered, level_verdict, row_verdict};
 
 // The centre of the hyperbolas of a cell, relative to its top left sample.
-#[derive(Drop)]
+#[derive(Clone, Copy)]
 pub struct Centre {
     pub xs: f64,
     pub ys: f64,
 }
 
 // The piece of a level line in one cell.
-#[derive(Drop)]
+#[derive(Clone, Copy)]
 pub enum Piece {
     Refused,
     Straight,
@@ -26,14 +26,14 @@ pub enum Piece {
     Branch(Centre, f64),
 }
 
-#[derive(Drop)]
+#[derive(Clone, Copy)]
 pub struct Found {
     pub answer: Answer,
     pub piece: Piece,
 }
 
 // The samples at the corners of a cell, by place: top left, bottom left, bottom right, top right.
-#[derive(Drop)]
+#[derive(Clone, Copy)]
 struct Corners {
     p0: u8,
     p1: u8,

@@ -1,11 +1,12 @@
 // Fractions in lowest terms.
 #![tactic(auto)]
+
 ghost use Rattle.std.specs.Prelude.{◌≡◌, ◌%◌, min};
 ghost use Rattle.tally.specs.Tally.{apart};
 ghost use Rattle.ratio.specs.Lowest.{gcd, lowest};
 
 // A fraction: num over den.
-#[derive(Drop)]
+#[derive(Clone, Copy)]
 pub struct Fraction {
     pub num: u32,
     pub den: u32,

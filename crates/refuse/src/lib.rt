@@ -1,5 +1,6 @@
 // Refusals: a call's verdict and answer, and the verdicts of the rows that calls begin with.
 #![tactic(auto)]
+
 mod fit;
 mod hot;
 
@@ -15,7 +16,7 @@ use hot::{edge_of, hot_at};
 
 // What a call answers: the refusal's number (0 is done) and place, and the words and lines handed over.
 #[repr(C)]
-#[derive(Drop)]
+#[derive(Clone, Copy)]
 pub struct Answer {
     pub number: u32,
     pub place: usize,
@@ -24,7 +25,7 @@ pub struct Answer {
 }
 
 // The first refusal that applies, with its place; 0 and 0 with none.
-#[derive(Drop)]
+#[derive(Clone, Copy)]
 pub struct Verdict {
     pub number: u32,
     pub place: usize,

@@ -12,7 +12,7 @@ use edgel::Heading;
 use store::sample;
 
 // A move by one place: east and south are positive.
-#[derive(Drop)]
+#[derive(Clone, Copy)]
 pub struct Move {
     pub dx: i64,
     pub dy: i64,
@@ -27,7 +27,7 @@ const MOVES: [Move; 4] = [
 ];
 
 // A crossing on its way: the left or top end of its edgel, and its heading.
-#[derive(Drop)]
+#[derive(Clone, Copy)]
 pub struct State {
     pub place: usize,
     pub heading: Heading,

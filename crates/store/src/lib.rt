@@ -1,5 +1,6 @@
 // Samples and words in lent memory: samples of one byte or of two, words in a list of numbers or in four bytes each. All bytes are little-endian.
 #![tactic(auto)]
+
 ghost use Rattle.std.specs.Prelude.{◌≡◌, ◌+◌, ◌*◌, ◌≤◌, ◌<◌, length, get_or, set};
 ghost use Rattle.store.specs.Store.{pairs, fours, samples_of, sample_end, places_of, spare_of, spare_samples};
 

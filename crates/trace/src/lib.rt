@@ -28,7 +28,7 @@ pub fn clear(work: &mut [u8], n: usize)
 }
 
 // The first refusal that applies, and the words that were counted for it.
-#[derive(Drop)]
+#[derive(Clone, Copy)]
 struct Checked {
     refusal: Verdict,
     words: usize,

@@ -13,7 +13,7 @@ use seek::search;
 use store::{count_of, sample};
 
 // The words and lines written so far.
-#[derive(Drop)]
+#[derive(Clone, Copy)]
 pub struct Written {
     pub words: usize,
     pub lines: usize,

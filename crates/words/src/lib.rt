@@ -1,5 +1,6 @@
 // The test of a word list: codes that name edgels, levels that are listed.
 #![tactic(auto)]
+
 ghost use Rattle.std.specs.Prelude.{◌≡◌};
 ghost use Rattle.tally.specs.Tally.{first_at};
 ghost use Rattle.matte.specs.Layout.{eight};
@@ -13,7 +14,7 @@ use edgel::{code_of, level_of};
 use refuse::area;
 
 // A size as the test of a code wants it: beside the sides, how many samples it has, and the factor that finds the last column without a division.
-#[derive(Drop)]
+#[derive(Clone, Copy)]
 pub struct Grid {
     pub width: usize,
     pub height: usize,

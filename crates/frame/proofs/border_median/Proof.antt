@@ -11,26 +11,26 @@ use Rattle.frame.proofs.Digits.{upper_under, half_le, median_halves}
 use Rattle.frame.proofs.border_median.Statement.{statement}
 use Rattle.frame.proofs.border_median.Tie as tie
 
-half-from-requires : tie.Need-half-from-requires
+half-from-requires : tie.Need-half_from-u-requires
 half-from-requires c κs =
-    let s = c.before in
+    let s = c in
     let a = s.args in
     let l = border_samples (picture a.w a.h a.px.now) in
     (s.requires.0, s.requires.1, omega arith, under_none false l)
 
-half-from-requires-2 : tie.Need-half-from-requires-2
+half-from-requires-2 : tie.Need-half_from-v-requires
 half-from-requires-2 c κs =
-    let s = c.before.before in
+    let s = c in
     let a = s.args in
     let l = border_samples (picture a.w a.h a.px.now) in
-    let u = c.half-from in
+    let u = c.half_from-u in
     (s.requires.0, s.requires.1, omega (arith, u.ensures.0, half_le false 0 l), u.ensures.1 ∙ upper_under l u.result.value)
 
 returns : tie.Need-returns
 returns c =
-    let a = c.before.before.before.args in
+    let a = c.args in
     let l = border_samples (picture a.w a.h a.px.now) in
-    c.half-from2.ensures.0 ∙ ap (λ (z : ℕ). half_from true z l) c.before.half-from.ensures.0 ∙ median_halves l
+    c.half_from-v.ensures.0 ∙ ap (λ (z : ℕ). half_from true z l) c.half_from-u.ensures.0 ∙ median_halves l
 
 pub border_median_spec : {M : Type 1} → statement M
 border_median_spec =

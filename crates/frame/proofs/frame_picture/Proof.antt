@@ -14,50 +14,44 @@ use Rattle.frame.proofs.Writes.{framed_list}
 use Rattle.frame.proofs.frame_picture.Statement.{statement}
 use Rattle.frame.proofs.frame_picture.Tie as tie
 
-frame-verdict-requires : tie.Need-frame-verdict-requires
+frame-verdict-requires : tie.Need-frame_verdict-v-requires
 frame-verdict-requires c κs = search rules
 
-returns : tie.Need-returns
+returns : tie.Need-returns-then-v-ne0
 returns c =
-    let v = c.before.before.frame-verdict in
-    let a = c.before.before.before.before.before.args in
+    let v = c.frame_verdict-v in
+    let a = c.args in
     let P = picture a.w a.h a.px.now in
     let F = framed eight P ++ drop (a.w * a.h) a.room.now in (
-      sym (refused_answer v.result 0 0 c.if1.true) ∙ ap (λ (z : Verdict). answer z 0 0) v.ensures.0,
-      sym (refused_after v.result a.room.now F c.if1.true) ∙ ap (λ (z : Verdict). afterwards z a.room.now F) v.ensures.0,
+      sym (refused_answer v.result 0 0 c.if-v-ne0.true) ∙ ap (λ (z : Verdict). answer z 0 0) v.ensures.0,
+      sym (refused_after v.result a.room.now F c.if-v-ne0.true) ∙ ap (λ (z : Verdict). afterwards z a.room.now F) v.ensures.0,
     )
 
-border-median-requires : tie.Need-border-median-requires
+border-median-requires : tie.Need-border_median-m-requires
 border-median-requires c κs =
-    let q = c.before.before.frame-verdict.ensures.1 c.if1.false in (q.0, q.1)
+    let q = c.frame_verdict-v.ensures.1 c.if-v-ne0.false in (q.0, q.1)
 
-frame-rows-requires : tie.Need-frame-rows-requires
+frame-rows-requires : tie.Need-frame_rows-requires
 frame-rows-requires c κs =
-    c.before.before.before.before.frame-verdict.ensures.1 c.before.before.if1.false
+    c.frame_verdict-v.ensures.1 c.if-v-ne0.false
 
-same_length : tie.Need-same-length
+same_length : tie.Need-shape_of-room
 same_length c = search rules
 
-returns-2 : tie.Need-returns-2
+returns-2 : tie.Need-returns
 returns-2 c =
-    let d = c.before.before.before.before.before in
-    let v = d.before.before.frame-verdict in
-    let a = d.before.before.before.before.before.args in
+    let d = c in
+    let v = d.frame_verdict-v in
+    let a = d.args in
     let P = picture a.w a.h a.px.now in
     let F = framed eight P ++ drop (a.w * a.h) a.room.now in (
-      sym (done_answer v.result 0 0 d.if1.false) ∙ ap (λ (z : Verdict). answer z 0 0) v.ensures.0,
-      framed_list a.w a.h _ a.px.now a.room.now _ c.before.before.before.before.border-median.ensures (v.ensures.1 d.if1.false).2 c.before.before.frame-rows.ensures
-          ∙ sym (done_after v.result a.room.now F d.if1.false)
+      sym (done_answer v.result 0 0 d.if-v-ne0.false) ∙ ap (λ (z : Verdict). answer z 0 0) v.ensures.0,
+      framed_list a.w a.h _ a.px.now a.room.now _ c.border_median-m.ensures (v.ensures.1 d.if-v-ne0.false).2 c.frame_rows.ensures
+          ∙ sym (done_after v.result a.room.now F d.if-v-ne0.false)
           ∙ ap (λ (z : Verdict). afterwards z a.room.now F) v.ensures.0,
     )
 
 pub frame_picture_spec : {M : Type 1} → statement M
 frame_picture_spec =
     tie.close
-    (tie.spec
-    frame-verdict-requires
-    returns
-    border-median-requires
-    frame-rows-requires
-    same_length
-    returns-2)
+    (tie.spec frame-verdict-requires returns border-median-requires frame-rows-requires same_length returns-2)

@@ -15,24 +15,24 @@ use borrow.Author.Rules.{rules}
 use Rattle.frame.proofs.frame_verdict.Statement.{statement}
 use Rattle.frame.proofs.frame_verdict.Tie as tie
 
-shape-verdict-requires : tie.Need-shape-verdict-requires
+shape-verdict-requires : tie.Need-shape_verdict-shape-requires
 shape-verdict-requires c κs = search rules
 
-returns : tie.Need-returns
-returns c = let a = c.before.before.before.before.args in (stopped (shape_rows (picture a.w a.h a.px.now)) ((row 9 (ltb a.places (a.w * a.h))) ∷ []) _ c.before.before.shape-verdict.ensures c.if1.true, λ z. absurd (c.if1.true z))
+returns : tie.Need-returns-then-shape-ne0
+returns c = let a = c.args in (stopped (shape_rows (picture a.w a.h a.px.now)) ((row 9 (ltb a.places (a.w * a.h))) ∷ []) _ c.shape_verdict-shape.ensures c.if-shape-ne0.true, λ z. absurd (c.if-shape-ne0.true z))
 
 area-requires : tie.Need-area-requires
-area-requires c κs = let a = c.before.before.before.before.args in (shaped (picture a.w a.h a.px.now) (ap (λ (v : Verdict). v.number) (sym c.before.before.shape-verdict.ensures) ∙ c.if1.false)).sides
+area-requires c κs = let a = c.args in (shaped (picture a.w a.h a.px.now) (ap (λ (v : Verdict). v.number) (sym c.shape_verdict-shape.ensures) ∙ c.if-shape-ne0.false)).sides
 
-row-verdict-requires : tie.Need-row-verdict-requires
+row-verdict-requires : tie.Need-row_verdict-requires
 row-verdict-requires c κs = search rules
 
-returns-2 : tie.Need-returns-2
+returns-2 : tie.Need-returns
 returns-2 c =
-    let a = c.before.before.before.before.before.before.args in
-    let S = shaped (picture a.w a.h a.px.now) (ap (λ (v : Verdict). v.number) (sym c.before.before.before.before.shape-verdict.ensures) ∙ c.before.before.if1.false) in
-    let v = (rw c.before.area.ensures.0 at c.row-verdict.ensures) in
-    (gone_on (shape_rows (picture a.w a.h a.px.now)) ((row 9 (ltb a.places (a.w * a.h))) ∷ []) _ _ refl c.before.before.before.before.shape-verdict.ensures c.before.before.if1.false v, λ z. (S.sides, S.whole, ltb-false a.places (a.w * a.h) (clean (row 9 (ltb a.places (a.w * a.h))) [] (λ y. omega arith) (ap (λ (y : Verdict). y.number) (sym v) ∙ z)).0))
+    let a = c.args in
+    let S = shaped (picture a.w a.h a.px.now) (ap (λ (v : Verdict). v.number) (sym c.shape_verdict-shape.ensures) ∙ c.if-shape-ne0.false) in
+    let v = (rw c.area.ensures.0 at c.row_verdict.ensures) in
+    (gone_on (shape_rows (picture a.w a.h a.px.now)) ((row 9 (ltb a.places (a.w * a.h))) ∷ []) _ _ refl c.shape_verdict-shape.ensures c.if-shape-ne0.false v, λ z. (S.sides, S.whole, ltb-false a.places (a.w * a.h) (clean (row 9 (ltb a.places (a.w * a.h))) [] (λ y. omega arith) (ap (λ (y : Verdict). y.number) (sym v) ∙ z)).0))
 
 pub frame_verdict_spec : {M : Type 1} → statement M
 frame_verdict_spec =

@@ -11,46 +11,46 @@ use borrow.Author.Rules.{rules}
 use Rattle.frame.proofs.half_from.Statement.{statement}
 use Rattle.frame.proofs.half_from.Tie as tie
 
-border-counts-requires : tie.Need-border-counts-requires
+border-counts-requires : tie.Need-border_counts-t-requires
 border-counts-requires c κs = search rules
 
-add-middle : tie.Need-overflow-add-middle
+add-middle : tie.Need-overflow_add-w
 add-middle c = search rules
 
-mul-middle : tie.Need-overflow-mul-middle
+mul-middle : tie.Need-overflow_mul-w
 mul-middle c = search rules
 
-sub-middle : tie.Need-overflow-sub-middle
+sub-middle : tie.Need-overflow_sub-w
 sub-middle c = search rules
 
-cast-middle : tie.Need-overflow-cast-middle
+cast-middle : tie.Need-overflow_cast-w
 cast-middle c = search rules
 
-middle-requires : tie.Need-middle-requires
+middle-requires : tie.Need-middle-f-requires
 middle-requires c κs =
-    let s = c.before.before.before in
+    let s = c in
     let a = s.args in
     let l = border_samples (picture a.w a.h a.px.now) in
     let e : length l ≡ 2 * (a.w + a.h) - 4 = border_many _ _ s.requires.0 _ in
-    rw c.before.border-counts.ensures (omega (arith, counts_sum a.whole a.top l, s.requires.3, s.requires.0.w_most, s.requires.0.h_most))
+    rw c.border_counts-t.ensures (omega (arith, counts_sum a.whole a.top l, s.requires.3, s.requires.0.w_most, s.requires.0.h_most))
 
-mul-value : tie.Need-overflow-mul-value
+mul-value : tie.Need-overflow_mul-value
 mul-value c = search rules
 
-add-value : tie.Need-overflow-add-value
+add-value : tie.Need-overflow_add-value
 add-value c =
-    let s = c.before.before.before.before.before in
+    let s = c in
     let a = s.args in
-    let t = c.before.before.before.border-counts in
-    omega (arith, s.requires.2, c.before.middle.ensures.0, halfway_le t.result a.below (2 * (a.w + a.h) - 4))
+    let t = c.border_counts-t in
+    omega (arith, s.requires.2, c.middle-f.ensures.0, halfway_le t.result a.below (2 * (a.w + a.h) - 4))
 
 returns : tie.Need-returns
 returns c =
-    let s = c.before.before.before.before.before in
+    let s = c in
     let a = s.args in
     let l = border_samples (picture a.w a.h a.px.now) in
-    let m = c.before.middle in
-    let t = c.before.before.before.border-counts in
+    let m = c.middle-f in
+    let t = c.border_counts-t in
     let d : m.result.value ≤ 16 = omega (arith, m.ensures.0, halfway_le t.result a.below (2 * (a.w + a.h) - 4)) in (
       found_half a.whole a.top l _ _ _ _ 0 t.ensures s.requires.3 (sym (border_many _ _ s.requires.0 a.px.now)) m.ensures.0,
       found_under a.whole a.top l _ _ 0 _ _ t.ensures s.requires.3 d m.ensures.1,
@@ -59,13 +59,4 @@ returns c =
 pub half_from_spec : {M : Type 1} → statement M
 half_from_spec =
     tie.close
-    (tie.spec
-    border-counts-requires
-    add-middle
-    mul-middle
-    sub-middle
-    cast-middle
-    middle-requires
-    mul-value
-    add-value
-    returns)
+    (tie.spec border-counts-requires add-middle mul-middle sub-middle cast-middle middle-requires mul-value add-value returns)

@@ -4,11 +4,11 @@ use Rattle.refuse.proofs.Rows.{done_answer, refused_answer}
 use Rattle.refuse.proofs.answered.Statement.{statement}
 use Rattle.refuse.proofs.answered.Tie as tie
 
-returns : tie.Need-returns
-returns c = let a = c.before.before.args in sym (refused_answer a.v a.words a.lines c.if1.true)
+returns : tie.Need-returns-then-v-ne0
+returns c = let a = c.args in sym (refused_answer a.v a.words a.lines c.if-v-ne0.true)
 
-returns-2 : tie.Need-returns-2
-returns-2 c = let a = c.before.before.args in sym (done_answer a.v a.words a.lines c.if1.false)
+returns-2 : tie.Need-returns
+returns-2 c = let a = c.args in sym (done_answer a.v a.words a.lines c.if-v-ne0.false)
 
 pub answered_spec : {M : Type 1} → statement M
 answered_spec = tie.close (tie.spec returns returns-2)

@@ -10,20 +10,20 @@ use borrow.Author.Rules.{rules}
 use Rattle.refuse.proofs.level_verdict.Statement.{statement}
 use Rattle.refuse.proofs.level_verdict.Tie as tie
 
-shape-verdict-requires : tie.Need-shape-verdict-requires
+shape-verdict-requires : tie.Need-shape_verdict-v-requires
 shape-verdict-requires c κs = search rules
 
-returns : tie.Need-returns
-returns c = let a = c.before.before.before.before.before.args in stopped (shape_rows (picture a.w a.h a.px.now)) (levels_row eight a.ks.now ∷ []) _ c.before.before.shape-verdict.ensures c.if1.true
+returns : tie.Need-returns-then-v-ne0
+returns c = let a = c.args in stopped (shape_rows (picture a.w a.h a.px.now)) (levels_row eight a.ks.now ∷ []) _ c.shape_verdict-v.ensures c.if-v-ne0.true
 
-levels-fit-requires : tie.Need-levels-fit-requires
+levels-fit-requires : tie.Need-levels_fit-requires
 levels-fit-requires c κs = search rules
 
-row-verdict-requires : tie.Need-row-verdict-requires
+row-verdict-requires : tie.Need-row_verdict-requires
 row-verdict-requires c κs = search rules
 
-returns-2 : tie.Need-returns-2
-returns-2 c = let a = c.before.before.before.before.before.before.before.args in gone_on (shape_rows (picture a.w a.h a.px.now)) (levels_row eight a.ks.now ∷ []) _ _ refl c.before.before.before.before.shape-verdict.ensures c.before.before.if1.false (rw c.before.levels-fit.ensures at c.row-verdict.ensures)
+returns-2 : tie.Need-returns
+returns-2 c = let a = c.args in gone_on (shape_rows (picture a.w a.h a.px.now)) (levels_row eight a.ks.now ∷ []) _ _ refl c.shape_verdict-v.ensures c.if-v-ne0.false (rw c.levels_fit.ensures at c.row_verdict.ensures)
 
 pub level_verdict_spec : {M : Type 1} → statement M
 level_verdict_spec =

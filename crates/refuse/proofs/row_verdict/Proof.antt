@@ -3,11 +3,11 @@ use mathlib.Core.Path.{refl}
 use Rattle.refuse.proofs.row_verdict.Statement.{statement}
 use Rattle.refuse.proofs.row_verdict.Tie as tie
 
-returns : tie.Need-returns
-returns c = rw c.if1.true refl
+returns : tie.Need-returns-then-given
+returns c = rw c.if-given.true refl
 
-returns-2 : tie.Need-returns-2
-returns-2 c = rw c.if1.false refl
+returns-2 : tie.Need-returns
+returns-2 c = rw c.if-given.false refl
 
 pub row_verdict_spec : {M : Type 1} → statement M
 row_verdict_spec = tie.close (tie.spec returns returns-2)

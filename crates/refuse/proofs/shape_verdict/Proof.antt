@@ -10,20 +10,20 @@ use borrow.Author.Rules.{rules}
 use Rattle.refuse.proofs.shape_verdict.Statement.{statement}
 use Rattle.refuse.proofs.shape_verdict.Tie as tie
 
-sides-verdict-requires : tie.Need-sides-verdict-requires
+sides-verdict-requires : tie.Need-sides_verdict-v-requires
 sides-verdict-requires c κs = search rules
 
-returns : tie.Need-returns
-returns c = let a = c.before.before.before.before.args in stopped (sides_row a.w a.h ∷ []) (samples_row (picture a.w a.h a.px.now) ∷ []) _ c.before.before.sides-verdict.ensures c.if1.true
+returns : tie.Need-returns-then-v-ne0
+returns c = let a = c.args in stopped (sides_row a.w a.h ∷ []) (samples_row (picture a.w a.h a.px.now) ∷ []) _ c.sides_verdict-v.ensures c.if-v-ne0.true
 
 area-requires : tie.Need-area-requires
-area-requires c κs = sized _ _ (ap (λ (v : Verdict). v.number) (sym c.before.before.sides-verdict.ensures) ∙ c.if1.false)
+area-requires c κs = sized _ _ (ap (λ (v : Verdict). v.number) (sym c.sides_verdict-v.ensures) ∙ c.if-v-ne0.false)
 
-row-verdict-requires : tie.Need-row-verdict-requires
+row-verdict-requires : tie.Need-row_verdict-requires
 row-verdict-requires c κs = search rules
 
-returns-2 : tie.Need-returns-2
-returns-2 c = let a = c.before.before.before.before.before.before.args in gone_on (sides_row a.w a.h ∷ []) (samples_row (picture a.w a.h a.px.now) ∷ []) _ _ refl c.before.before.before.before.sides-verdict.ensures c.before.before.if1.false (rw c.before.area.ensures.0 at c.row-verdict.ensures)
+returns-2 : tie.Need-returns
+returns-2 c = let a = c.args in gone_on (sides_row a.w a.h ∷ []) (samples_row (picture a.w a.h a.px.now) ∷ []) _ _ refl c.sides_verdict-v.ensures c.if-v-ne0.false (rw c.area.ensures.0 at c.row_verdict.ensures)
 
 pub shape_verdict_spec : {M : Type 1} → statement M
 shape_verdict_spec =

@@ -8,20 +8,20 @@ use borrow.Author.Rules.{rules}
 use Rattle.refuse.proofs.size_verdict.Statement.{statement}
 use Rattle.refuse.proofs.size_verdict.Tie as tie
 
-sides-verdict-requires : tie.Need-sides-verdict-requires
+sides-verdict-requires : tie.Need-sides_verdict-v-requires
 sides-verdict-requires c κs = search rules
 
-returns : tie.Need-returns
-returns c = let a = c.before.before.before.before.args in stopped (sides_row a.w a.h ∷ []) (levels_row eight a.ks.now ∷ []) _ c.before.before.sides-verdict.ensures c.if1.true
+returns : tie.Need-returns-then-v-ne0
+returns c = let a = c.args in stopped (sides_row a.w a.h ∷ []) (levels_row eight a.ks.now ∷ []) _ c.sides_verdict-v.ensures c.if-v-ne0.true
 
-levels-fit-requires : tie.Need-levels-fit-requires
+levels-fit-requires : tie.Need-levels_fit-requires
 levels-fit-requires c κs = search rules
 
-row-verdict-requires : tie.Need-row-verdict-requires
+row-verdict-requires : tie.Need-row_verdict-requires
 row-verdict-requires c κs = search rules
 
-returns-2 : tie.Need-returns-2
-returns-2 c = let a = c.before.before.before.before.before.before.args in gone_on (sides_row a.w a.h ∷ []) (levels_row eight a.ks.now ∷ []) _ _ refl c.before.before.before.before.sides-verdict.ensures c.before.before.if1.false (rw c.before.levels-fit.ensures at c.row-verdict.ensures)
+returns-2 : tie.Need-returns
+returns-2 c = let a = c.args in gone_on (sides_row a.w a.h ∷ []) (levels_row eight a.ks.now ∷ []) _ _ refl c.sides_verdict-v.ensures c.if-v-ne0.false (rw c.levels_fit.ensures at c.row_verdict.ensures)
 
 pub size_verdict_spec : {M : Type 1} → statement M
 size_verdict_spec =

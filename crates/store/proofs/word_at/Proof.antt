@@ -5,20 +5,20 @@ use native.Mathlib.Omega.{arith}
 use Rattle.store.proofs.word_at.Statement.{statement}
 use Rattle.store.proofs.word_at.Tie as tie
 
-four-at-requires : tie.Need-four-at-requires
-four-at-requires c κs = rw c.if1.true at c.before.before.before.requires
+four-at-requires : tie.Need-four_at-requires
+four-at-requires c κs = rw c.if-inb.true at c.requires
 
-returns : tie.Need-returns
-returns c = rw c.before.if1.true c.four-at.ensures
+returns : tie.Need-returns-then-inb
+returns c = rw c.if-inb.true c.four_at.ensures
 
-mul-result : tie.Need-overflow-mul-result
-mul-result c = let h = rw c.if1.false at c.before.before.before.requires in search rules
+mul-result : tie.Need-offset_bounds-words-i
+mul-result c = let h = rw c.if-inb.false at c.requires in search rules
 
-shared-slice-read-result : tie.Need-shared-slice-read-result
-shared-slice-read-result c = rw c.before.if1.false at c.before.before.before.before.requires
+shared-slice-read-result : tie.Need-bounds-words-i
+shared-slice-read-result c = rw c.if-inb.false at c.requires
 
-returns-2 : tie.Need-returns-2
-returns-2 c = rw c.before.if1.false refl
+returns-2 : tie.Need-returns
+returns-2 c = rw c.if-inb.false refl
 
 pub word_at_spec : {M : Type 1} → statement M
 word_at_spec =

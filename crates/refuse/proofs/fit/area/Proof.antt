@@ -6,7 +6,7 @@ use native.Mathlib.Omega.{arith}
 use Rattle.refuse.proofs.fit.area.Statement.{statement}
 use Rattle.refuse.proofs.fit.area.Tie as tie
 
-mul-result : tie.Need-overflow-mul-result
+mul-result : tie.Need-overflow_mul-result
 mul-result c = omega (arith, mul-le-mul c.requires.w_most c.requires.h_most)
 
 returns : tie.Need-returns

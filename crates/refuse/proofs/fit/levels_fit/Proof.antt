@@ -10,60 +10,48 @@ use Rattle.refuse.proofs.Levels.{too_low, too_high, go_on, done}
 use Rattle.refuse.proofs.fit.levels_fit.Statement.{statement}
 use Rattle.refuse.proofs.fit.levels_fit.Tie as tie
 
-abbrev invariant-loop : tie.invariant-loop
+abbrev invariant-loop : tie.invariant-loop-i
 invariant-loop ks low₀ i₀ low i = (i ≤ length ks) × (ascend eight 0 ks ≡ ascend eight low (drop i ks))
 
-abbrev decreases-loop : tie.decreases-loop
+abbrev decreases-loop : tie.decreases-loop-i
 decreases-loop ks low₀ i₀ low i = length ks - i
 
-loop-holds : tie.Need-loop-init invariant-loop decreases-loop
+loop-holds : tie.Need-loop-i-init invariant-loop decreases-loop
 loop-holds c = (omega arith, refl)
 
-shared-slice-read-k : tie.Need-shared-slice-read-k invariant-loop decreases-loop
+shared-slice-read-k : tie.Need-bounds-ks-i invariant-loop decreases-loop
 shared-slice-read-k c = search rules
 
-cast-k : tie.Need-overflow-cast-k invariant-loop decreases-loop
-cast-k c = omega (arith, c.shared-slice-known.given c.before.before.loop.i)
+cast-k : tie.Need-overflow_cast-k invariant-loop decreases-loop
+cast-k c = omega (arith, c.shared_slice_known-1.given c.loop-i.i)
 
-returns : tie.Need-returns invariant-loop decreases-loop
+returns : tie.Need-returns-then-k-low invariant-loop decreases-loop
 returns c =
-    sym (c.before.before.before.loop.invariant.1 ∙ too_low _ _ _ _ c.before.before.loop-test.true c.if1.true)
+    sym (c.loop-i.invariant.1 ∙ too_low _ _ _ _ c.loop-i-test.true c.if-k-low.true)
 
-returns-2 : tie.Need-returns-2 invariant-loop decreases-loop
+returns-2 : tie.Need-returns-then-k-ge255 invariant-loop decreases-loop
 returns-2 c =
-    sym (c.before.before.before.before.loop.invariant.1 ∙ too_high _ _ _ _ c.before.before.before.loop-test.true c.before.if1.false c.if2.true)
+    sym (c.loop-i.invariant.1 ∙ too_high _ _ _ _ c.loop-i-test.true c.if-k-low.false c.if-k-ge255.true)
 
-add_low : tie.Need-overflow-add-low invariant-loop decreases-loop
+add_low : tie.Need-overflow_add-low invariant-loop decreases-loop
 add_low c = search rules
 
-add-i : tie.Need-overflow-add-i invariant-loop decreases-loop
+add-i : tie.Need-overflow_add-i invariant-loop decreases-loop
 add-i c = search rules
 
-loop-less : tie.Need-loop-smaller invariant-loop decreases-loop
+loop-less : tie.Need-loop-i-smaller invariant-loop decreases-loop
 loop-less c = search rules
 
-loop-again : tie.Need-loop-preserved invariant-loop decreases-loop
+loop-again : tie.Need-loop-i-preserved invariant-loop decreases-loop
 loop-again c =
-    (omega arith, c.before.before.before.before.loop.invariant.1 ∙ go_on _ _ _ _ c.before.before.before.loop-test.true c.before.if1.false c.if2.false)
+    (omega arith, c.loop-i.invariant.1 ∙ go_on _ _ _ _ c.loop-i-test.true c.if-k-low.false c.if-k-ge255.false)
 
-returns-3 : tie.Need-returns-3 invariant-loop decreases-loop
+returns-3 : tie.Need-returns invariant-loop decreases-loop
 returns-3 c =
-    let e : c.before.loop.i ≡ length c.before.before.args.ks.now = omega arith in
-    sym (c.before.loop.invariant.1 ∙ done eight _ _ _ e)
+    let e : c.loop-i.i ≡ length c.args.ks.now = omega arith in
+    sym (c.loop-i.invariant.1 ∙ done eight _ _ _ e)
 
 pub levels_fit_spec : {M : Type 1} → statement M
 levels_fit_spec =
     tie.close
-    (tie.spec
-    invariant-loop
-    decreases-loop
-    loop-holds
-    shared-slice-read-k
-    cast-k
-    returns
-    returns-2
-    add_low
-    add-i
-    loop-less
-    loop-again
-    returns-3)
+    (tie.spec invariant-loop decreases-loop loop-holds shared-slice-read-k cast-k returns returns-2 add_low add-i loop-less loop-again returns-3)

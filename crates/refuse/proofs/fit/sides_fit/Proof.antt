@@ -3,17 +3,17 @@ use borrow.Author.Tests.{le-leb, lt-leb}
 use Rattle.refuse.proofs.fit.sides_fit.Statement.{statement}
 use Rattle.refuse.proofs.fit.sides_fit.Tie as tie
 
-returns : tie.Need-returns
-returns c = simp (lt-leb _ _ c.if1.true)
+returns : tie.Need-returns-then-w-lt2
+returns c = simp (lt-leb _ _ c.if-w-lt2.true)
 
-returns-2 : tie.Need-returns-2
-returns-2 c = simp (le-leb _ _ c.before.if1.false, lt-leb _ _ c.if2.true)
+returns-2 : tie.Need-returns-then-w-gt2048
+returns-2 c = simp (le-leb _ _ c.if-w-lt2.false, lt-leb _ _ c.if-w-gt2048.true)
 
-returns-3 : tie.Need-returns-3
-returns-3 c = simp (le-leb _ _ c.before.before.if1.false, le-leb _ _ c.before.if2.false, lt-leb _ _ c.if3.true)
+returns-3 : tie.Need-returns-then-h-lt2
+returns-3 c = simp (le-leb _ _ c.if-w-lt2.false, le-leb _ _ c.if-w-gt2048.false, lt-leb _ _ c.if-h-lt2.true)
 
-returns-4 : tie.Need-returns-4
-returns-4 c = simp (le-leb _ _ c.before.before.if1.false, le-leb _ _ c.before.if2.false, le-leb _ _ c.if3.false)
+returns-4 : tie.Need-returns
+returns-4 c = simp (le-leb _ _ c.if-w-lt2.false, le-leb _ _ c.if-w-gt2048.false, le-leb _ _ c.if-h-lt2.false)
 
 pub sides_fit_spec : {M : Type 1} → statement M
 sides_fit_spec = tie.close (tie.spec returns returns-2 returns-3 returns-4)

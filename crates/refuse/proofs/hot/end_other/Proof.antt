@@ -6,67 +6,52 @@ use Rattle.refuse.proofs.Border.{Along, along_in, along_next, along_end, left_is
 use Rattle.refuse.proofs.hot.end_other.Statement.{statement}
 use Rattle.refuse.proofs.hot.end_other.Tie as tie
 
-abbrev invariant-loop : tie.invariant-loop
+abbrev invariant-loop : tie.invariant-loop-y
 invariant-loop w h px v i₀ y₀ i y = Along w h px v i y
 
-abbrev decreases-loop : tie.decreases-loop
+abbrev decreases-loop : tie.decreases-loop-y
 decreases-loop w h px v i₀ y₀ i y = h - y
 
-loop-holds : tie.Need-loop-init invariant-loop decreases-loop
+loop-holds : tie.Need-loop-y-init invariant-loop decreases-loop
 loop-holds c = record { least = omega arith; most = omega (arith, c.requires.0.h_least); start = omega (arith, one-mul c.args.w); clear = λ d a b. absurd (omega arith) }
 
-add-loop : tie.Need-overflow-add-loop invariant-loop decreases-loop
-add-loop c = omega (arith, c.loop.invariant.most, c.before.requires.0.h_most)
+add-loop : tie.Need-overflow_add-y invariant-loop decreases-loop
+add-loop c = omega (arith, c.loop-y.invariant.most, c.requires.0.h_most)
 
-shared-slice-read-if1 : tie.Need-shared-slice-read-if1 invariant-loop decreases-loop
-shared-slice-read-if1 c = omega (arith, c.before.before.before.requires.1, c.before.before.before.requires.0.w_least, along_in c.before.before.before.requires.0 c.before.before.loop.invariant c.before.loop-test.true)
+shared-slice-read-if1 : tie.Need-bounds-px-i invariant-loop decreases-loop
+shared-slice-read-if1 c = omega (arith, c.requires.1, c.requires.0.w_least, along_in c.requires.0 c.loop-y.invariant c.loop-y-test.true)
 
-returns : tie.Need-returns invariant-loop decreases-loop
-returns c = left_is c.before.before.before.before.requires.0 c.before.before.before.loop.invariant c.before.before.loop-test.true c.if1.true
+returns : tie.Need-returns-then-px-i invariant-loop decreases-loop
+returns c = left_is c.requires.0 c.loop-y.invariant c.loop-y-test.true c.if-px-i.true
 
-add_right : tie.Need-overflow-add-right invariant-loop decreases-loop
-add_right c = omega (arith, along_in c.before.before.before.before.requires.0 c.before.before.before.loop.invariant c.before.before.loop-test.true)
+add_right : tie.Need-overflow_add-right invariant-loop decreases-loop
+add_right c = omega (arith, along_in c.requires.0 c.loop-y.invariant c.loop-y-test.true)
 
-sub-right : tie.Need-overflow-sub-right invariant-loop decreases-loop
-sub-right c = omega (arith, c.before.before.before.before.requires.0.w_least)
+sub-right : tie.Need-overflow_sub-right invariant-loop decreases-loop
+sub-right c = omega (arith, c.requires.0.w_least)
 
-shared-slice-read-if2 : tie.Need-shared-slice-read-if2 invariant-loop decreases-loop
-shared-slice-read-if2 c = omega (arith, c.before.before.before.before.before.requires.1, c.before.before.before.before.before.requires.0.w_least, along_in c.before.before.before.before.before.requires.0 c.before.before.before.before.loop.invariant c.before.before.before.loop-test.true)
+shared-slice-read-if2 : tie.Need-bounds-px-right invariant-loop decreases-loop
+shared-slice-read-if2 c = omega (arith, c.requires.1, c.requires.0.w_least, along_in c.requires.0 c.loop-y.invariant c.loop-y-test.true)
 
-returns-2 : tie.Need-returns-2 invariant-loop decreases-loop
-returns-2 c = right_is c.before.before.before.before.before.before.requires.0 c.before.before.before.before.before.loop.invariant c.before.before.before.before.loop-test.true c.before.before.if1.false c.if2.true
+returns-2 : tie.Need-returns-then-px-right invariant-loop decreases-loop
+returns-2 c = right_is c.requires.0 c.loop-y.invariant c.loop-y-test.true c.if-px-i.false c.if-px-right.true
 
-add-i : tie.Need-overflow-add-i invariant-loop decreases-loop
-add-i c = omega (arith, along_in c.before.before.before.before.before.before.requires.0 c.before.before.before.before.before.loop.invariant c.before.before.before.before.loop-test.true)
+add-i : tie.Need-overflow_add-i invariant-loop decreases-loop
+add-i c = omega (arith, along_in c.requires.0 c.loop-y.invariant c.loop-y-test.true)
 
-add-y : tie.Need-overflow-add-y invariant-loop decreases-loop
-add-y c = omega (arith, c.before.before.before.before.before.loop.invariant.most, c.before.before.before.before.before.before.requires.0.h_most)
+add-y : tie.Need-overflow_add-y-in-loop-y invariant-loop decreases-loop
+add-y c = omega (arith, c.loop-y.invariant.most, c.requires.0.h_most)
 
-loop-less : tie.Need-loop-smaller invariant-loop decreases-loop
-loop-less c = omega (arith, c.before.before.before.before.loop-test.true)
+loop-less : tie.Need-loop-y-smaller invariant-loop decreases-loop
+loop-less c = omega (arith, c.loop-y-test.true)
 
-loop-again : tie.Need-loop-preserved invariant-loop decreases-loop
-loop-again c = along_next c.before.before.before.before.before.before.requires.0 c.before.before.before.before.before.loop.invariant c.before.before.before.before.loop-test.true c.before.before.if1.false c.if2.false
+loop-again : tie.Need-loop-y-preserved invariant-loop decreases-loop
+loop-again c = along_next c.requires.0 c.loop-y.invariant c.loop-y-test.true c.if-px-i.false c.if-px-right.false
 
-returns-3 : tie.Need-returns-3 invariant-loop decreases-loop
-returns-3 c = along_end c.before.before.requires.0 c.before.loop.invariant (omega (arith, c.loop-test.false, c.before.loop.invariant.most))
+returns-3 : tie.Need-returns invariant-loop decreases-loop
+returns-3 c = along_end c.requires.0 c.loop-y.invariant (omega (arith, c.loop-y-test.false, c.loop-y.invariant.most))
 
 pub end_other_spec : {M : Type 1} → statement M
 end_other_spec =
     tie.close
-    (tie.spec
-    invariant-loop
-    decreases-loop
-    loop-holds
-    add-loop
-    shared-slice-read-if1
-    returns
-    add_right
-    sub-right
-    shared-slice-read-if2
-    returns-2
-    add-i
-    add-y
-    loop-less
-    loop-again
-    returns-3)
+    (tie.spec invariant-loop decreases-loop loop-holds add-loop shared-slice-read-if1 returns add_right sub-right shared-slice-read-if2 returns-2 add-i add-y loop-less loop-again returns-3)

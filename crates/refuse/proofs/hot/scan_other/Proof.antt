@@ -11,58 +11,49 @@ use Rattle.refuse.specs.Ends.{other_at}
 use Rattle.refuse.proofs.hot.scan_other.Statement.{statement}
 use Rattle.refuse.proofs.hot.scan_other.Tie as tie
 
-abbrev invariant-loop : tie.invariant-loop
+abbrev invariant-loop : tie.invariant-loop-i
 invariant-loop px from to v i₀ i = (from ≤ i) × (i ≤ to) × ((d : ℕ) → from ≤ d → d < i → other_at px v d ≡ false)
 
-abbrev decreases-loop : tie.decreases-loop
+abbrev decreases-loop : tie.decreases-loop-i
 decreases-loop px from to v i₀ i = to - i
 
-loop-holds : tie.Need-loop-init invariant-loop decreases-loop
+loop-holds : tie.Need-loop-i-init invariant-loop decreases-loop
 loop-holds c = (omega arith, c.requires.0, λ d x y. absurd (omega arith))
 
-shared-slice-read-if1 : tie.Need-shared-slice-read-if1 invariant-loop decreases-loop
-shared-slice-read-if1 c = omega (arith, c.before.loop-test.true, c.before.before.before.requires.1)
+shared-slice-read-if1 : tie.Need-bounds-px-i invariant-loop decreases-loop
+shared-slice-read-if1 c = omega (arith, c.loop-i-test.true, c.requires.1)
 
-returns : tie.Need-returns invariant-loop decreases-loop
+returns : tie.Need-returns-then-px-i invariant-loop decreases-loop
 returns c =
-    let a = c.before.before.before.before.args in
-    let l = c.before.before.before.loop in
-    sym (from_is (other_at a.px.now a.v) a.from (a.to - a.from) l.i l.invariant.0 (omega (arith, l.invariant.0, l.invariant.1)) l.invariant.2 (λ t. ap not (ne_eqb _ _ c.if1.true)))
+    let a = c.args in
+    let l = c.loop-i in
+    sym (from_is (other_at a.px.now a.v) a.from (a.to - a.from) l.i l.invariant.0 (omega (arith, l.invariant.0, l.invariant.1)) l.invariant.2 (λ t. ap not (ne_eqb _ _ c.if-px-i.true)))
 
-add-i : tie.Need-overflow-add-i invariant-loop decreases-loop
-add-i c = omega (arith, c.before.before.loop-test.true, c.before.before.before.before.ranges.to)
+add-i : tie.Need-overflow_add-i invariant-loop decreases-loop
+add-i c = omega (arith, c.loop-i-test.true, c.ranges.to)
 
-loop-less : tie.Need-loop-smaller invariant-loop decreases-loop
-loop-less c = omega (arith, c.before.before.loop-test.true)
+loop-less : tie.Need-loop-i-smaller invariant-loop decreases-loop
+loop-less c = omega (arith, c.loop-i-test.true)
 
-loop-again : tie.Need-loop-preserved invariant-loop decreases-loop
+loop-again : tie.Need-loop-i-preserved invariant-loop decreases-loop
 loop-again c =
-    let a = c.before.before.before.before.args in
-    let l = c.before.before.before.loop in (
+    let a = c.args in
+    let l = c.loop-i in (
       omega (arith, l.invariant.0),
-      omega (arith, c.before.before.loop-test.true),
+      omega (arith, c.loop-i-test.true),
       λ d x y.
           by_test (eqb d l.i)
-          (λ e. ap (other_at a.px.now a.v) (eqb-true d l.i e) ∙ ap not (eq-eqb _ _ c.if1.false))
+          (λ e. ap (other_at a.px.now a.v) (eqb-true d l.i e) ∙ ap not (eq-eqb _ _ c.if-px-i.false))
           (λ e. l.invariant.2 d x (omega (arith, eqb-false d l.i e))),
     )
 
-returns-2 : tie.Need-returns-2 invariant-loop decreases-loop
+returns-2 : tie.Need-returns invariant-loop decreases-loop
 returns-2 c =
-    let a = c.before.before.args in
-    let l = c.before.loop in
-    sym (from_is (other_at a.px.now a.v) a.from (a.to - a.from) l.i l.invariant.0 (omega (arith, l.invariant.0, l.invariant.1)) l.invariant.2 (λ t. absurd (omega (arith, c.loop-test.false, l.invariant.0, t))))
+    let a = c.args in
+    let l = c.loop-i in
+    sym (from_is (other_at a.px.now a.v) a.from (a.to - a.from) l.i l.invariant.0 (omega (arith, l.invariant.0, l.invariant.1)) l.invariant.2 (λ t. absurd (omega (arith, c.loop-i-test.false, l.invariant.0, t))))
 
 pub scan_other_spec : {M : Type 1} → statement M
 scan_other_spec =
     tie.close
-    (tie.spec
-    invariant-loop
-    decreases-loop
-    loop-holds
-    shared-slice-read-if1
-    returns
-    add-i
-    loop-less
-    loop-again
-    returns-2)
+    (tie.spec invariant-loop decreases-loop loop-holds shared-slice-read-if1 returns add-i loop-less loop-again returns-2)

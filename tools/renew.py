@@ -87,6 +87,19 @@ def renamed(text, of):
     return "\n".join(lines)
 
 
+def aliased(text, of):
+    """`let n = c.f in .. n.new.1.0` where f is a call: the parameter's name as at the call itself."""
+    callees = {place[2][1]: of["params"][place[3]] for place in of["places"] if place[3] in of["params"]}
+    blocks = text.split("\n\n")
+    for i, block in enumerate(blocks):
+        for name, call in re.findall(r"let ([\w']+) = [\w']+\.(" + WORD + ") in", block):
+            names = callees.get(call)
+            if names:
+                block = re.sub(r"(?<![\w.'-])" + re.escape(name) + r"\.(new|auto)((?:\.1)*)\.0(?![\w-])", lambda m: f"{name}.{m.group(1)}.{names[m.group(2).count('.1')]}" if m.group(2).count(".1") < len(names) else m.group(0), block)
+        blocks[i] = block
+    return "\n\n".join(blocks)
+
+
 def unchained(text):
     """`let s = c.before.before in`, where s is only asked for its fields, becomes `let s = c in`."""
     blocks = re.split(r"\n\n", text)
@@ -162,7 +175,7 @@ def main():
         text = open(path, encoding="utf-8").read()
         if set(re.findall(r"tie\.Need-(" + WORD + ")", text)) == {new for _, new in of["needs"]} and not any(old != new for (old, new), _ in of["loops"] if f"tie.invariant-{old}" in text.split()):
             continue
-        new = unchained(answered(renamed(text, of), of, path))
+        new = unchained(aliased(answered(renamed(text, of), of, path), of))
         if new != text:
             open(path, "w", encoding="utf-8").write(new)
 

@@ -1,5 +1,6 @@
 // The crossing call: where exactly a level crosses an edgel.
 #![tactic(auto)]
+
 ghost use Rattle.std.specs.Prelude.{◌≡◌, Bool, true, false, cond, ℕ, ◌+◌, ◌*◌, ◌%◌, ◌≤◌, ltb, get_or};
 ghost use Rattle.tally.specs.Tally.{apart, differ};
 ghost use Rattle.matte.specs.Layout.{eight};

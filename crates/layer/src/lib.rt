@@ -1,5 +1,6 @@
 // Painting level by level: the turned edgels of a level are marked, then each row is run along from mark to mark.
 #![tactic(auto)]
+
 mod rows;
 
 ghost use Rattle.std.specs.Prelude.{◌≡◌, ℕ, ◌*◌, ◌<◌, ◌≤◌, true, length, take, nat_lt, slice_index};

@@ -1,5 +1,6 @@
 // The outline file, written and read.
 #![tactic(auto)]
+
 mod get;
 mod put;
 

@@ -1,5 +1,6 @@
 // The piece call: what the level line is inside one cell.
 #![tactic(auto)]
+
 ghost use Rattle.std.specs.Prelude.{◌≡◌, Bool, true, false, ◌&&◌, ℕ, ◌+◌, ◌*◌, ◌<◌, ◌≤◌, ltb, length, pos, ◌-ℤ◌};
 ghost use Rattle.tally.specs.Tally.{differ};
 ghost use Rattle.matte.specs.Layout.{eight};

@@ -1,5 +1,6 @@
 // The step of a line through one cell, and the code of a crossing.
 #![tactic(auto)]
+
 ghost use Rattle.std.specs.Prelude.{◌≡◌, Bool, true, false, ℕ, ◌+◌, ◌*◌, ◌≤◌, ◌<◌, length, get_or};
 ghost use Rattle.matte.specs.Picture.{picture, most_places};
 ghost use Rattle.edgel.specs.Heading.{left, dx, dy, ahead};

@@ -18,80 +18,67 @@ use borrow.Author.Rules.{rules}
 use Rattle.crossing.proofs.crossing_verdict.Statement.{statement}
 use Rattle.crossing.proofs.crossing_verdict.Tie as tie
 
-slice-aggregate-level-verdict : tie.Need-slice-aggregate-level-verdict
+slice-aggregate-level-verdict : tie.Need-slice_bounds-level_verdict-end
 slice-aggregate-level-verdict c = search rules
 
-level-verdict-requires : tie.Need-level-verdict-requires
+level-verdict-requires : tie.Need-level_verdict-v-requires
 level-verdict-requires c κs = search rules
 
-returns : tie.Need-returns
-returns c = let a = c.before.before.before.before.before.args in stopped (level_rows eight (picture a.w a.h a.px.now) (a.k ∷ [])) ((code_row a.w a.h a.code) ∷ (row 10 (not (crossed (high (picture a.w a.h a.px.now) a.k) a.w a.code))) ∷ []) _ c.before.before.level-verdict.ensures c.if1.true
+returns : tie.Need-returns-then-v-ne0
+returns c = let a = c.args in stopped (level_rows eight (picture a.w a.h a.px.now) (a.k ∷ [])) ((code_row a.w a.h a.code) ∷ (row 10 (not (crossed (high (picture a.w a.h a.px.now) a.k) a.w a.code))) ∷ []) _ c.level_verdict-v.ensures c.if-v-ne0.true
 
-edgel-fits-requires : tie.Need-edgel-fits-requires
+edgel-fits-requires : tie.Need-edgel_fits-requires
 edgel-fits-requires c κs =
-    let a = c.before.before.before.before.before.args in
-    (levelled eight (picture a.w a.h a.px.now) (a.k ∷ []) (ap (λ (v : Verdict). v.number) (sym c.before.before.level-verdict.ensures) ∙ c.if1.false)).0.sides
+    let a = c.args in
+    (levelled eight (picture a.w a.h a.px.now) (a.k ∷ []) (ap (λ (v : Verdict). v.number) (sym c.level_verdict-v.ensures) ∙ c.if-v-ne0.false)).0.sides
 
-row-verdict-requires : tie.Need-row-verdict-requires
+row-verdict-requires : tie.Need-row_verdict-u-requires
 row-verdict-requires c κs = search rules
 
-returns-2 : tie.Need-returns-2
+returns-2 : tie.Need-returns-then-u-ne0
 returns-2 c =
-    let a = c.before.before.before.before.before.before.before.before.before.args in
-    gone_on (level_rows eight (picture a.w a.h a.px.now) (a.k ∷ [])) ((code_row a.w a.h a.code) ∷ (row 10 (not (crossed (high (picture a.w a.h a.px.now) a.k) a.w a.code))) ∷ []) _ _ refl c.before.before.before.before.before.before.level-verdict.ensures c.before.before.before.before.if1.false (stopped ((code_row a.w a.h a.code) ∷ []) ((row 10 (not (crossed (high (picture a.w a.h a.px.now) a.k) a.w a.code))) ∷ []) _ (rw c.before.before.before.edgel-fits.ensures at c.before.before.row-verdict.ensures) c.if2.true)
+    let a = c.args in
+    gone_on (level_rows eight (picture a.w a.h a.px.now) (a.k ∷ [])) ((code_row a.w a.h a.code) ∷ (row 10 (not (crossed (high (picture a.w a.h a.px.now) a.k) a.w a.code))) ∷ []) _ _ refl c.level_verdict-v.ensures c.if-v-ne0.false (stopped ((code_row a.w a.h a.code) ∷ []) ((row 10 (not (crossed (high (picture a.w a.h a.px.now) a.k) a.w a.code))) ∷ []) _ (rw c.edgel_fits.ensures at c.row_verdict-u.ensures) c.if-u-ne0.true)
 
-cast-i : tie.Need-overflow-cast-i
+cast-i : tie.Need-overflow_cast-i
 cast-i c = search rules
 
-other-end-requires : tie.Need-other-end-requires
+other-end-requires : tie.Need-other_end-j-requires
 other-end-requires c κs =
-    let a = c.before.before.before.before.before.before.before.before.before.args in
-    let l = (levelled eight (picture a.w a.h a.px.now) (a.k ∷ []) (ap (λ (v : Verdict). v.number) (sym c.before.before.before.before.before.before.level-verdict.ensures) ∙ c.before.before.before.before.if1.false)).0 in
+    let a = c.args in
+    let l = (levelled eight (picture a.w a.h a.px.now) (a.k ∷ []) (ap (λ (v : Verdict). v.number) (sym c.level_verdict-v.ensures) ∙ c.if-v-ne0.false)).0 in
     l.sides.w_most
 
-shared-slice-read-splits : tie.Need-shared-slice-read-splits
+shared-slice-read-splits : tie.Need-bounds-px-i
 shared-slice-read-splits c =
-    let a = c.before.before.before.before.before.before.before.before.before.before.before.args in
-    let l = (levelled eight (picture a.w a.h a.px.now) (a.k ∷ []) (ap (λ (v : Verdict). v.number) (sym c.before.before.before.before.before.before.before.before.level-verdict.ensures) ∙ c.before.before.before.before.before.before.if1.false)).0 in
-    let u = (rw c.before.before.before.before.before.edgel-fits.ensures at c.before.before.before.before.row-verdict.ensures) in
-    let e = (clean_fit 8 _ [] (λ z. omega arith) (ap (λ (v : Verdict). v.number) (sym u) ∙ c.before.before.if2.false)).0 in
+    let a = c.args in
+    let l = (levelled eight (picture a.w a.h a.px.now) (a.k ∷ []) (ap (λ (v : Verdict). v.number) (sym c.level_verdict-v.ensures) ∙ c.if-v-ne0.false)).0 in
+    let u = (rw c.edgel_fits.ensures at c.row_verdict-u.ensures) in
+    let e = (clean_fit 8 _ [] (λ z. omega arith) (ap (λ (v : Verdict). v.number) (sym u) ∙ c.if-u-ne0.false)).0 in
     omega (arith, first_in a.w a.h a.code e, l.whole)
 
-shared-slice-read-splits-2 : tie.Need-shared-slice-read-splits-2
+shared-slice-read-splits-2 : tie.Need-bounds-px-j
 shared-slice-read-splits-2 c =
-    let a = c.before.before.before.before.before.before.before.before.before.before.before.before.args in
-    let l = (levelled eight (picture a.w a.h a.px.now) (a.k ∷ []) (ap (λ (v : Verdict). v.number) (sym c.before.before.before.before.before.before.before.before.before.level-verdict.ensures) ∙ c.before.before.before.before.before.before.before.if1.false)).0 in
-    let u = (rw c.before.before.before.before.before.before.edgel-fits.ensures at c.before.before.before.before.before.row-verdict.ensures) in
-    let e = (clean_fit 8 _ [] (λ z. omega arith) (ap (λ (v : Verdict). v.number) (sym u) ∙ c.before.before.before.if2.false)).0 in
-    omega (arith, second_in a.w a.h a.code e, c.before.before.other-end.ensures, l.whole)
+    let a = c.args in
+    let l = (levelled eight (picture a.w a.h a.px.now) (a.k ∷ []) (ap (λ (v : Verdict). v.number) (sym c.level_verdict-v.ensures) ∙ c.if-v-ne0.false)).0 in
+    let u = (rw c.edgel_fits.ensures at c.row_verdict-u.ensures) in
+    let e = (clean_fit 8 _ [] (λ z. omega arith) (ap (λ (v : Verdict). v.number) (sym u) ∙ c.if-u-ne0.false)).0 in
+    omega (arith, second_in a.w a.h a.code e, c.other_end-j.ensures, l.whole)
 
 splits-requires : tie.Need-splits-requires
 splits-requires c κs = search rules
 
-row-verdict-requires-2 : tie.Need-row-verdict-requires-2
+row-verdict-requires-2 : tie.Need-row_verdict-requires
 row-verdict-requires-2 c κs = search rules
 
-returns-3 : tie.Need-returns-3
+returns-3 : tie.Need-returns
 returns-3 c =
-    let a = c.before.before.before.before.before.before.before.before.before.before.before.before.before.before.args in
-    let x = c.before.splits.ensures ∙ crossed_is (picture a.w a.h a.px.now) a.k a.code _ c.before.before.before.before.other-end.ensures in
-    gone_on (level_rows eight (picture a.w a.h a.px.now) (a.k ∷ [])) ((code_row a.w a.h a.code) ∷ (row 10 (not (crossed (high (picture a.w a.h a.px.now) a.k) a.w a.code))) ∷ []) _ _ refl c.before.before.before.before.before.before.before.before.before.before.before.level-verdict.ensures c.before.before.before.before.before.before.before.before.before.if1.false
-    (gone_on ((code_row a.w a.h a.code) ∷ []) ((row 10 (not (crossed (high (picture a.w a.h a.px.now) a.k) a.w a.code))) ∷ []) _ _ refl (rw c.before.before.before.before.before.before.before.before.edgel-fits.ensures at c.before.before.before.before.before.before.before.row-verdict.ensures) c.before.before.before.before.before.if2.false (rw x at c.row-verdict2.ensures))
+    let a = c.args in
+    let x = c.splits.ensures ∙ crossed_is (picture a.w a.h a.px.now) a.k a.code _ c.other_end-j.ensures in
+    gone_on (level_rows eight (picture a.w a.h a.px.now) (a.k ∷ [])) ((code_row a.w a.h a.code) ∷ (row 10 (not (crossed (high (picture a.w a.h a.px.now) a.k) a.w a.code))) ∷ []) _ _ refl c.level_verdict-v.ensures c.if-v-ne0.false
+    (gone_on ((code_row a.w a.h a.code) ∷ []) ((row 10 (not (crossed (high (picture a.w a.h a.px.now) a.k) a.w a.code))) ∷ []) _ _ refl (rw c.edgel_fits.ensures at c.row_verdict-u.ensures) c.if-u-ne0.false (rw x at c.row_verdict.ensures))
 
 pub crossing_verdict_spec : {M : Type 1} → statement M
 crossing_verdict_spec =
     tie.close
-    (tie.spec
-    slice-aggregate-level-verdict
-    level-verdict-requires
-    returns
-    edgel-fits-requires
-    row-verdict-requires
-    returns-2
-    cast-i
-    other-end-requires
-    shared-slice-read-splits
-    shared-slice-read-splits-2
-    splits-requires
-    row-verdict-requires-2
-    returns-3)
+    (tie.spec slice-aggregate-level-verdict level-verdict-requires returns edgel-fits-requires row-verdict-requires returns-2 cast-i other-end-requires shared-slice-read-splits shared-slice-read-splits-2 splits-requires row-verdict-requires-2 returns-3)

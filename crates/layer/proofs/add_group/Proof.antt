@@ -1,49 +1,43 @@
 -- `layer::add_group` meets its contract: the marks of the group, then a layer. Assumes nothing.
+use borrow.Author.Rules.{rules}
 use Rattle.std.proofs.Common.{arith, rules}
 use Rattle.layer.proofs.Layers.{layered_same}
 use Rattle.layer.proofs.Levels.{marks_turned}
 use Rattle.layer.proofs.add_group.Statement.{statement}
 use Rattle.layer.proofs.add_group.Tie as tie
 
-area-requires : tie.Need-area-requires
+area-requires : tie.Need-area-n-requires
 area-requires c κs = search rules
 
-add-clear : tie.Need-overflow-add-clear
+add-clear : tie.Need-overflow_add-n
 add-clear c = search rules
 
 clear-requires : tie.Need-clear-requires
 clear-requires c κs = search rules
 
-mark-group-requires : tie.Need-mark-group-requires
+mark-group-requires : tie.Need-mark_group-e-requires
 mark-group-requires c κs = search rules
 
-add-layer-requires : tie.Need-add-layer-requires
+add-layer-requires : tie.Need-add_layer-requires
 add-layer-requires c κs = search rules
 
-same_length : tie.Need-same-length
+same_length : tie.Need-shape_of-room
 same_length c = search rules
 
 returns : tie.Need-returns
 returns c =
-    let d = c.before.before.before.before.before in
-    let C = d.before.before.clear in
-    let n = d.before.before.before.before.area in
-    let M = d.mark-group.ensures in (
+    let d = c in
+    let C = d.clear in
+    let n = d.area-n in
+    let M = d.mark_group-e.ensures in (
       M.0,
       M.1,
       layered_same _ _ _ _ _ _ _
           (λ p h. marks_turned _ _ _ (C.ensures.1 p (omega (arith, n.ensures.0))) (M.2 p))
-          c.before.before.add-layer.ensures,
+          c.add_layer.ensures,
     )
 
 pub add_group_spec : {M : Type 1} → statement M
 add_group_spec =
     tie.close
-    (tie.spec
-    area-requires
-    add-clear
-    clear-requires
-    mark-group-requires
-    add-layer-requires
-    same_length
-    returns)
+    (tie.spec area-requires add-clear clear-requires mark-group-requires add-layer-requires same_length returns)

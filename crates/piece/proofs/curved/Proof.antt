@@ -18,51 +18,40 @@ quotient-requires-2 c κs = search rules
 product-requires : tie.Need-product-requires
 product-requires c κs = search rules
 
-mul-quotient : tie.Need-overflow-mul-quotient
+mul-quotient : tie.Need-overflow_mul-product
 mul-quotient c = search rules
 
-quotient-requires-3 : tie.Need-quotient-requires-3
+quotient-requires-3 : tie.Need-quotient-requires-then-l-r
 quotient-requires-3 c κs = search rules
 
-returns : tie.Need-returns
+returns : tie.Need-returns-then-l-r
 returns c =
-    let a = c.before.before.before.before.before.args in
-    curved_branch (pos a.x -ℤ pos a.u) (pos a.y -ℤ pos a.v) a.l a.r a.m _ _ c.before.before.before.before.quotient.ensures c.before.before.before.quotient2.ensures c.before.before.if1.true _
-    (c.quotient3.ensures ∙ ap (λ (n : ℕ). over (pos a.l -ℤ pos a.r) (2 * n)) c.before.product.ensures.0)
+    let a = c.args in
+    curved_branch (pos a.x -ℤ pos a.u) (pos a.y -ℤ pos a.v) a.l a.r a.m _ _ c.quotient.ensures c.quotient-2.ensures c.if-l-r.true _
+    (c.quotient-then-l-r.ensures ∙ ap (λ (n : ℕ). over (pos a.l -ℤ pos a.r) (2 * n)) c.product.ensures.0)
 
-part-within-requires : tie.Need-part-within-requires
+part-within-requires : tie.Need-part_within-requires
 part-within-requires c κs = search rules
 
-returns-2 : tie.Need-returns-2
+returns-2 : tie.Need-returns-then-not-part_within
 returns-2 c =
-    let a = c.before.before.before.before.before.args in
-    curved_out_x (pos a.x -ℤ pos a.u) (pos a.y -ℤ pos a.v) a.l a.r a.m _ _ c.before.before.before.before.quotient.ensures c.before.before.before.quotient2.ensures c.before.before.if1.false (sym c.before.part-within.ensures ∙ not-true _ c.if2.true)
+    let a = c.args in
+    curved_out_x (pos a.x -ℤ pos a.u) (pos a.y -ℤ pos a.v) a.l a.r a.m _ _ c.quotient.ensures c.quotient-2.ensures c.if-l-r.false (sym c.part_within.ensures ∙ not-true _ c.if-not-part_within.true-raw)
 
-part-within-requires-2 : tie.Need-part-within-requires-2
+part-within-requires-2 : tie.Need-part_within-requires-2
 part-within-requires-2 c κs = search rules
 
-returns-3 : tie.Need-returns-3
+returns-3 : tie.Need-returns-then-not-part_within-2
 returns-3 c =
-    let a = c.before.before.before.before.before.before.before.args in
-    curved_out_y (pos a.x -ℤ pos a.u) (pos a.y -ℤ pos a.v) a.l a.r a.m _ _ c.before.before.before.before.before.before.quotient.ensures c.before.before.before.before.before.quotient2.ensures c.before.before.before.before.if1.false (sym c.before.before.before.part-within.ensures ∙ not-false _ c.before.before.if2.false) (sym c.before.part-within2.ensures ∙ not-true _ c.if3.true)
+    let a = c.args in
+    curved_out_y (pos a.x -ℤ pos a.u) (pos a.y -ℤ pos a.v) a.l a.r a.m _ _ c.quotient.ensures c.quotient-2.ensures c.if-l-r.false (sym c.part_within.ensures ∙ not-false _ c.if-not-part_within.false-raw) (sym c.part_within-2.ensures ∙ not-true _ c.if-not-part_within-2.true-raw)
 
-returns-4 : tie.Need-returns-4
+returns-4 : tie.Need-returns
 returns-4 c =
-    let a = c.before.before.before.before.before.before.before.args in
-    curved_corner (pos a.x -ℤ pos a.u) (pos a.y -ℤ pos a.v) a.l a.r a.m _ _ c.before.before.before.before.before.before.quotient.ensures c.before.before.before.before.before.quotient2.ensures c.before.before.before.before.if1.false (sym c.before.before.before.part-within.ensures ∙ not-false _ c.before.before.if2.false) (sym c.before.part-within2.ensures ∙ not-false _ c.if3.false)
+    let a = c.args in
+    curved_corner (pos a.x -ℤ pos a.u) (pos a.y -ℤ pos a.v) a.l a.r a.m _ _ c.quotient.ensures c.quotient-2.ensures c.if-l-r.false (sym c.part_within.ensures ∙ not-false _ c.if-not-part_within.false-raw) (sym c.part_within-2.ensures ∙ not-false _ c.if-not-part_within-2.false-raw)
 
 pub curved_spec : {M : Type 1} → statement M
 curved_spec =
     tie.close
-    (tie.spec
-    quotient-requires
-    quotient-requires-2
-    product-requires
-    mul-quotient
-    quotient-requires-3
-    returns
-    part-within-requires
-    returns-2
-    part-within-requires-2
-    returns-3
-    returns-4)
+    (tie.spec quotient-requires quotient-requires-2 product-requires mul-quotient quotient-requires-3 returns part-within-requires returns-2 part-within-requires-2 returns-3 returns-4)

@@ -5,10 +5,10 @@ use borrow.Author.Rules.{rules}
 use Rattle.piece.proofs.place_of.Statement.{statement}
 use Rattle.piece.proofs.place_of.Tie as tie
 
-mul-result : tie.Need-overflow-mul-result
+mul-result : tie.Need-overflow_mul-result
 mul-result c = omega (arith, mul-le-mul c.requires.2 c.requires.0)
 
-add-result : tie.Need-overflow-add-result
+add-result : tie.Need-overflow_add-result
 add-result c = omega (arith, mul-le-mul c.requires.2 c.requires.0)
 
 returns : tie.Need-returns

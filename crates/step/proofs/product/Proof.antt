@@ -5,7 +5,7 @@ use native.Mathlib.Omega.{arith}
 use Rattle.step.proofs.product.Statement.{statement}
 use Rattle.step.proofs.product.Tie as tie
 
-mul-result : tie.Need-overflow-mul-result
+mul-result : tie.Need-overflow_mul-result
 mul-result c = omega (arith, mul-le-mul c.requires.0 c.requires.1)
 
 returns : tie.Need-returns

@@ -5,77 +5,64 @@ use Rattle.layer.proofs.Bits.{Adding, bits_begin, bits_within, bits_room, bits_l
 use Rattle.layer.proofs.rows.add_bits.Statement.{statement}
 use Rattle.layer.proofs.rows.add_bits.Tie as tie
 
-abbrev invariant-loop : tie.invariant-loop
+abbrev invariant-loop : tie.invariant-loop-y
 invariant-loop x base was room₀ y₀ p₀ on₀ room y p on = Adding x base was room₀ y p on room
 
-abbrev decreases-loop : tie.decreases-loop
+abbrev decreases-loop : tie.decreases-loop-y
 decreases-loop x base was room₀ y₀ p₀ on₀ room y p on = y
 
-loop-holds : tie.Need-loop-init invariant-loop decreases-loop
+loop-holds : tie.Need-loop-y-init invariant-loop decreases-loop
 loop-holds c = bits_begin _ _ _ _
 
-cast-p : tie.Need-overflow-cast-p invariant-loop decreases-loop
-cast-p c = omega (arith, trailing_le 64 c.before.loop.y)
+cast-p : tie.Need-overflow_cast-p invariant-loop decreases-loop
+cast-p c = omega (arith, trailing_le 64 c.loop-y.y)
 
-add-p : tie.Need-overflow-add-p invariant-loop decreases-loop
+add-p : tie.Need-overflow_add-p invariant-loop decreases-loop
 add-p c =
-    let l = c.before in
-    let s = l.before.before in
-    omega (arith, bits_room _ _ _ _ _ _ _ _ l.loop.invariant c.loop-test.true s.ranges.x.fits _ s.requires, l.loop.invariant.walked.long)
+    let l = c in
+    let s = l in
+    omega (arith, bits_room _ _ _ _ _ _ _ _ l.loop-y.invariant c.loop-y-test.true s.ranges.x.fits _ s.requires, l.loop-y.invariant.walked.long)
 
-add-p-2 : tie.Need-overflow-add-p-2 invariant-loop decreases-loop
+add-p-2 : tie.Need-overflow_add-p-in-loop-y invariant-loop decreases-loop
 add-p-2 c =
-    let l = c.before in
-    let s = l.before.before in
-    omega (arith, bits_room _ _ _ _ _ _ _ _ l.loop.invariant c.loop-test.true s.ranges.x.fits _ s.requires, l.loop.invariant.walked.long)
+    let l = c in
+    let s = l in
+    omega (arith, bits_room _ _ _ _ _ _ _ _ l.loop-y.invariant c.loop-y-test.true s.ranges.x.fits _ s.requires, l.loop-y.invariant.walked.long)
 
 turn-requires : tie.Need-turn-requires invariant-loop decreases-loop
 turn-requires c κs =
-    let l = c.before.before in
-    let s = l.before.before in
-    omega (arith, bits_room _ _ _ _ _ _ _ _ l.loop.invariant c.before.loop-test.true s.ranges.x.fits _ s.requires, l.loop.invariant.walked.long)
+    let l = c in
+    let s = l in
+    omega (arith, bits_room _ _ _ _ _ _ _ _ l.loop-y.invariant c.loop-y-test.true s.ranges.x.fits _ s.requires, l.loop-y.invariant.walked.long)
 
-cast-y : tie.Need-overflow-cast-y invariant-loop decreases-loop
-cast-y c = omega (arith, trailing_le 64 c.before.before.before.before.before.loop.y)
+cast-y : tie.Need-overflow_cast-y invariant-loop decreases-loop
+cast-y c = omega (arith, trailing_le 64 c.loop-y.y)
 
-shr-y : tie.Need-overflow-shr-y invariant-loop decreases-loop
+shr-y : tie.Need-overflow_shr-y invariant-loop decreases-loop
 shr-y c =
-    let i = c.before.before.before.before in
-    let l = i.before in
-    bits_within _ _ _ _ _ _ _ _ l.loop.invariant i.loop-test.true l.before.before.ranges.x.fits
+    let i = c in
+    let l = i in
+    bits_within _ _ _ _ _ _ _ _ l.loop-y.invariant i.loop-y-test.true l.ranges.x.fits
 
-loop-less : tie.Need-loop-smaller invariant-loop decreases-loop
+loop-less : tie.Need-loop-y-smaller invariant-loop decreases-loop
 loop-less c =
-    let i = c.before.before.before.before in
-    let l = i.before in
-    bits_less _ _ _ _ _ _ _ _ l.loop.invariant i.loop-test.true l.before.before.ranges.x.fits
+    let i = c in
+    let l = i in
+    bits_less _ _ _ _ _ _ _ _ l.loop-y.invariant i.loop-y-test.true l.ranges.x.fits
 
-loop-again : tie.Need-loop-preserved invariant-loop decreases-loop
+loop-again : tie.Need-loop-y-preserved invariant-loop decreases-loop
 loop-again c =
-    let i = c.before.before.before.before in
-    let l = i.before in
-    bits_go _ _ _ _ _ _ _ _ l.loop.invariant i.loop-test.true l.before.before.ranges.x.fits _ c.before.before.turn.ensures
+    let i = c in
+    let l = i in
+    bits_go _ _ _ _ _ _ _ _ l.loop-y.invariant i.loop-y-test.true l.ranges.x.fits _ c.turn.ensures
 
-same_length : tie.Need-same-length invariant-loop decreases-loop
-same_length c = c.before.loop.invariant.walked.long
+same_length : tie.Need-shape_of-room invariant-loop decreases-loop
+same_length c = c.loop-y.invariant.walked.long
 
 returns : tie.Need-returns invariant-loop decreases-loop
-returns c = bits_end _ _ _ _ _ _ _ _ c.before.loop.invariant c.loop-test.false
+returns c = bits_end _ _ _ _ _ _ _ _ c.loop-y.invariant c.loop-y-test.false
 
 pub add_bits_spec : {M : Type 1} → statement M
 add_bits_spec =
     tie.close
-    (tie.spec
-    invariant-loop
-    decreases-loop
-    loop-holds
-    cast-p
-    add-p
-    add-p-2
-    turn-requires
-    cast-y
-    shr-y
-    loop-less
-    loop-again
-    same_length
-    returns)
+    (tie.spec invariant-loop decreases-loop loop-holds cast-p add-p add-p-2 turn-requires cast-y shr-y loop-less loop-again same_length returns)

@@ -5,72 +5,62 @@ use Rattle.layer.proofs.Layers.{Rows, row_end, area_le, layer_begin, layer_go, l
 use Rattle.layer.proofs.rows.add_layer.Statement.{statement}
 use Rattle.layer.proofs.rows.add_layer.Tie as tie
 
-abbrev invariant-loop : tie.invariant-loop
+abbrev invariant-loop : tie.invariant-loop-y
 invariant-loop w h m v k room₀ f on₀ lo₀ y₀ room on lo y = (y ≤ h) × (lo ≡ y * w) × Rows (bit_at m) f w lo on room₀ room
 
-abbrev decreases-loop : tie.decreases-loop
+abbrev decreases-loop : tie.decreases-loop-y
 decreases-loop w h m v k room₀ f on₀ lo₀ y₀ room on lo y = h - y
 
-loop-holds : tie.Need-loop-init invariant-loop decreases-loop
+loop-holds : tie.Need-loop-y-init invariant-loop decreases-loop
 loop-holds c = (omega arith, omega arith, layer_begin _ _ _ _)
 
-add-hi : tie.Need-overflow-add-hi invariant-loop decreases-loop
+add-hi : tie.Need-overflow_add-hi invariant-loop decreases-loop
 add-hi c =
-    let l = c.before in
-    let s = l.before.before in
+    let l = c in
+    let s = l in
     let a = s.args in
-    omega (arith, row_end a.w a.h l.loop.y c.loop-test.true, area_le _ _ s.requires.0, l.loop.invariant.1)
+    omega (arith, row_end a.w a.h l.loop-y.y c.loop-y-test.true, area_le _ _ s.requires.0, l.loop-y.invariant.1)
 
-add-row-requires : tie.Need-add-row-requires invariant-loop decreases-loop
+add-row-requires : tie.Need-add_row-on-requires invariant-loop decreases-loop
 add-row-requires c κs =
-    let l = c.before.before in
-    let s = l.before.before in
+    let l = c in
+    let s = l in
     let a = s.args in
-    let r = row_end a.w a.h l.loop.y c.before.loop-test.true in (
+    let r = row_end a.w a.h l.loop-y.y c.loop-y-test.true in (
       omega (arith, s.requires.0.w_least),
-      omega (arith, r, area_le _ _ s.requires.0, l.loop.invariant.1),
-      omega (arith, r, l.loop.invariant.1, s.requires.1, l.loop.invariant.2.long),
+      omega (arith, r, area_le _ _ s.requires.0, l.loop-y.invariant.1),
+      omega (arith, r, l.loop-y.invariant.1, s.requires.1, l.loop-y.invariant.2.long),
     )
 
-add-y : tie.Need-overflow-add-y invariant-loop decreases-loop
+add-y : tie.Need-overflow_add-y invariant-loop decreases-loop
 add-y c =
-    let l = c.before.before.before.before.before in
-    omega (arith, c.before.before.before.before.loop-test.true, l.before.before.requires.0.h_most)
+    let l = c in
+    omega (arith, c.loop-y-test.true, l.requires.0.h_most)
 
-loop-less : tie.Need-loop-smaller invariant-loop decreases-loop
-loop-less c = omega (arith, c.before.before.before.before.loop-test.true)
+loop-less : tie.Need-loop-y-smaller invariant-loop decreases-loop
+loop-less c = omega (arith, c.loop-y-test.true)
 
-loop-again : tie.Need-loop-preserved invariant-loop decreases-loop
+loop-again : tie.Need-loop-y-preserved invariant-loop decreases-loop
 loop-again c =
-    let l = c.before.before.before.before.before in (
-      omega (arith, c.before.before.before.before.loop-test.true),
-      omega (arith, l.loop.invariant.1),
-      layer_go _ _ _ _ l.loop.y _ _ _ _ _ (omega (arith, l.before.before.requires.0.w_least)) l.loop.invariant.1 l.loop.invariant.2 c.before.before.add_row.ensures,
+    let l = c in (
+      omega (arith, c.loop-y-test.true),
+      omega (arith, l.loop-y.invariant.1),
+      layer_go _ _ _ _ l.loop-y.y _ _ _ _ _ (omega (arith, l.requires.0.w_least)) l.loop-y.invariant.1 l.loop-y.invariant.2 c.add_row-on.ensures,
     )
 
-same_length : tie.Need-same-length invariant-loop decreases-loop
-same_length c = c.before.loop.invariant.2.long
+same_length : tie.Need-shape_of-room invariant-loop decreases-loop
+same_length c = c.loop-y.invariant.2.long
 
 returns : tie.Need-returns invariant-loop decreases-loop
 returns c =
-    let l = c.before in
-    let a = l.before.before.args in
-    let t : l.loop.y ≡ a.h = omega (arith, l.loop.invariant.0, c.loop-test.false) in
-    let u : l.loop.y * a.w ≡ a.h * a.w = ap (λ (z : ℕ). z * a.w) t in
-    let e : l.loop.lo ≡ a.w * a.h = omega (arith, l.loop.invariant.1) in
-    layer_end _ _ _ _ _ _ _ (rw e at l.loop.invariant.2)
+    let l = c in
+    let a = l.args in
+    let t : l.loop-y.y ≡ a.h = omega (arith, l.loop-y.invariant.0, c.loop-y-test.false) in
+    let u : l.loop-y.y * a.w ≡ a.h * a.w = ap (λ (z : ℕ). z * a.w) t in
+    let e : l.loop-y.lo ≡ a.w * a.h = omega (arith, l.loop-y.invariant.1) in
+    layer_end _ _ _ _ _ _ _ (rw e at l.loop-y.invariant.2)
 
 pub add_layer_spec : {M : Type 1} → statement M
 add_layer_spec =
     tie.close
-    (tie.spec
-    invariant-loop
-    decreases-loop
-    loop-holds
-    add-hi
-    add-row-requires
-    add-y
-    loop-less
-    loop-again
-    same_length
-    returns)
+    (tie.spec invariant-loop decreases-loop loop-holds add-hi add-row-requires add-y loop-less loop-again same_length returns)

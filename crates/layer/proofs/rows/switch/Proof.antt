@@ -1,4 +1,5 @@
 -- `layer::rows::switch` meets its contract: the state is that already, or is turned over. Assumes nothing.
+use borrow.Author.Rules.{rules}
 use Rattle.std.proofs.Common.{◌≡◌, Bool, true, false, not, refl, rules}
 use mathlib.Core.Bool.{beq}
 use Rattle.tally.proofs.Test.{no}
@@ -18,20 +19,20 @@ other true false e = refl
 other false true e = refl
 other false false e = no refl e
 
-returns : tie.Need-returns
-returns c = let a = c.before.before.args in rw (alike a.was a.f c.if1.true) (turned_same _ _ _)
+returns : tie.Need-returns-then-was-f
+returns c = let a = c.args in rw (alike a.was a.f c.if-was-f.true) (turned_same _ _ _)
 
 turn-requires : tie.Need-turn-requires
 turn-requires c κs = search rules
 
-same_length : tie.Need-same-length
+same_length : tie.Need-shape_of-room
 same_length c = search rules
 
-returns-2 : tie.Need-returns-2
+returns-2 : tie.Need-returns
 returns-2 c =
-    let t = c.before.before in
-    let a = t.before.before.before.before.args in
-    rw (other a.was a.f t.before.before.if1.false) at t.turn.ensures
+    let t = c in
+    let a = t.args in
+    rw (other a.was a.f t.if-was-f.false) at t.turn.ensures
 
 pub switch_spec : {M : Type 1} → statement M
 switch_spec = tie.close (tie.spec returns turn-requires same_length returns-2)

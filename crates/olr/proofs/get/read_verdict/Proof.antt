@@ -25,124 +25,105 @@ bad-at f p q = ap₂ (λ (s t : ℕ). first_at (bad_word eight s t (file_levels 
 given-8 : (f out : List ℕ) (k n : ℕ) (v : Verdict) → k ≡ bad_at f → n ≡ file_word_count f → v ≡ verdict (row_at 8 (ltb k n) k ∷ []) → v ≡ verdict (r8 f out ∷ [])
 given-8 f out k n v e m q = q ∙ rw (e, m, sym (words_length f)) refl
 
-row-verdict-requires : tie.Need-row-verdict-requires
+row-verdict-requires : tie.Need-row_verdict-cut-requires
 row-verdict-requires c κs = search rules
 
-returns : tie.Need-returns
+returns : tie.Need-returns-then-cut-ne0
 returns c =
-    let f = c.before.before.before.before.before.args.file.now in
-    let o = c.before.before.before.before.before.args.words.now in
-    stopped (r12 f o ∷ []) (r13 f o ∷ r14 f o ∷ r8 f o ∷ r6 f o ∷ []) _ c.before.before.row-verdict.ensures c.if1.true
+    let f = c.args.file.now in
+    let o = c.args.words.now in
+    stopped (r12 f o ∷ []) (r13 f o ∷ r14 f o ∷ r8 f o ∷ r6 f o ∷ []) _ c.row_verdict-cut.ensures c.if-cut-ne0.true
 
-first-bad-block-requires : tie.Need-first-bad-block-requires
+first-bad-block-requires : tie.Need-first_bad_block-b-requires
 first-bad-block-requires c κs = search rules
 
-laid-out-requires : tie.Need-laid-out-requires
+laid-out-requires : tie.Need-laid_out-laid-requires
 laid-out-requires c κs =
-    let f = c.before.before.before.before.before.before.args.file.now in
-    let o = c.before.before.before.before.before.before.args.words.now in
-    let b = whole_blocks f o (ap (λ (v : Verdict). v.number) (sym c.before.before.before.row-verdict.ensures) ∙ c.before.if1.false) in
+    let f = c.args.file.now in
+    let o = c.args.words.now in
+    let b = whole_blocks f o (ap (λ (v : Verdict). v.number) (sym c.row_verdict-cut.ensures) ∙ c.if-cut-ne0.false) in
     omega (arith, b.0, b.1)
 
-row-verdict-requires-2 : tie.Need-row-verdict-requires-2
+row-verdict-requires-2 : tie.Need-row_verdict-check-requires
 row-verdict-requires-2 c κs = search rules
 
-returns-2 : tie.Need-returns-2
+returns-2 : tie.Need-returns-then-check-ne0
 returns-2 c =
-    let f = c.before.before.before.before.before.before.before.before.before.before.args.file.now in
-    let o = c.before.before.before.before.before.before.before.before.before.before.args.words.now in
-    gone_on (r12 f o ∷ []) (r13 f o ∷ r14 f o ∷ r8 f o ∷ r6 f o ∷ []) _ _ refl c.before.before.before.before.before.before.before.row-verdict.ensures c.before.before.before.before.before.if1.false (stopped (r13 f o ∷ []) (r14 f o ∷ r8 f o ∷ r6 f o ∷ []) _ (c.before.before.row-verdict2.ensures ∙ ap (λ (n : ℕ). verdict (row_at 13 (ltb n (blocks f)) n ∷ [])) c.before.before.before.before.first-bad-block.ensures) c.if2.true)
+    let f = c.args.file.now in
+    let o = c.args.words.now in
+    gone_on (r12 f o ∷ []) (r13 f o ∷ r14 f o ∷ r8 f o ∷ r6 f o ∷ []) _ _ refl c.row_verdict-cut.ensures c.if-cut-ne0.false (stopped (r13 f o ∷ []) (r14 f o ∷ r8 f o ∷ r6 f o ∷ []) _ (c.row_verdict-check.ensures ∙ ap (λ (n : ℕ). verdict (row_at 13 (ltb n (blocks f)) n ∷ [])) c.first_bad_block-b.ensures) c.if-check-ne0.true)
 
-row-verdict-requires-3 : tie.Need-row-verdict-requires-3
+row-verdict-requires-3 : tie.Need-row_verdict-layout-requires
 row-verdict-requires-3 c κs = search rules
 
-returns-3 : tie.Need-returns-3
+returns-3 : tie.Need-returns-then-layout-ne0
 returns-3 c =
-    let f = c.before.before.before.before.before.before.before.before.before.before.before.before.before.args.file.now in
-    let o = c.before.before.before.before.before.before.before.before.before.before.before.before.before.args.words.now in
-    gone_on (r12 f o ∷ []) (r13 f o ∷ r14 f o ∷ r8 f o ∷ r6 f o ∷ []) _ _ refl c.before.before.before.before.before.before.before.before.before.before.row-verdict.ensures c.before.before.before.before.before.before.before.before.if1.false
-    (gone_on (r13 f o ∷ []) (r14 f o ∷ r8 f o ∷ r6 f o ∷ []) _ _ refl (c.before.before.before.before.before.row-verdict2.ensures ∙ ap (λ (n : ℕ). verdict (row_at 13 (ltb n (blocks f)) n ∷ [])) c.before.before.before.before.before.before.before.first-bad-block.ensures) c.before.before.before.if2.false (stopped (r14 f o ∷ []) (r8 f o ∷ r6 f o ∷ []) _ (rw c.before.before.before.before.before.before.laid_out.ensures at c.before.before.row-verdict3.ensures) c.if3.true))
+    let f = c.args.file.now in
+    let o = c.args.words.now in
+    gone_on (r12 f o ∷ []) (r13 f o ∷ r14 f o ∷ r8 f o ∷ r6 f o ∷ []) _ _ refl c.row_verdict-cut.ensures c.if-cut-ne0.false
+    (gone_on (r13 f o ∷ []) (r14 f o ∷ r8 f o ∷ r6 f o ∷ []) _ _ refl (c.row_verdict-check.ensures ∙ ap (λ (n : ℕ). verdict (row_at 13 (ltb n (blocks f)) n ∷ [])) c.first_bad_block-b.ensures) c.if-check-ne0.false (stopped (r14 f o ∷ []) (r8 f o ∷ r6 f o ∷ []) _ (rw c.laid_out-laid.ensures at c.row_verdict-layout.ensures) c.if-layout-ne0.true))
 
-num4-at-requires : tie.Need-num4-at-requires
+num4-at-requires : tie.Need-num4_at-n-requires
 num4-at-requires c κs =
-    let f = c.before.before.before.before.before.before.before.before.before.before.before.before.before.args.file.now in
-    let o = c.before.before.before.before.before.before.before.before.before.before.before.before.before.args.words.now in
-    let b = whole_blocks f o (ap (λ (v : Verdict). v.number) (sym c.before.before.before.before.before.before.before.before.before.before.row-verdict.ensures) ∙ c.before.before.before.before.before.before.before.before.if1.false) in
+    let f = c.args.file.now in
+    let o = c.args.words.now in
+    let b = whole_blocks f o (ap (λ (v : Verdict). v.number) (sym c.row_verdict-cut.ensures) ∙ c.if-cut-ne0.false) in
     omega (arith, b.0, b.1)
 
-cast-n : tie.Need-overflow-cast-n
+cast-n : tie.Need-overflow_cast-n
 cast-n c = search rules
 
-num2-at-requires : tie.Need-num2-at-requires
+num2-at-requires : tie.Need-num2_at-requires
 num2-at-requires c κs =
-    let f = c.before.before.before.before.before.before.before.before.before.before.before.before.before.before.args.file.now in
-    let o = c.before.before.before.before.before.before.before.before.before.before.before.before.before.before.args.words.now in
-    let b = whole_blocks f o (ap (λ (v : Verdict). v.number) (sym c.before.before.before.before.before.before.before.before.before.before.before.row-verdict.ensures) ∙ c.before.before.before.before.before.before.before.before.before.if1.false) in
+    let f = c.args.file.now in
+    let o = c.args.words.now in
+    let b = whole_blocks f o (ap (λ (v : Verdict). v.number) (sym c.row_verdict-cut.ensures) ∙ c.if-cut-ne0.false) in
     omega (arith, b.0, b.1)
 
-cast-first-bad : tie.Need-overflow-cast-first-bad
+cast-first-bad : tie.Need-overflow_cast-num2_at
 cast-first-bad c = search rules
 
-num2-at-requires-2 : tie.Need-num2-at-requires-2
+num2-at-requires-2 : tie.Need-num2_at-requires-2
 num2-at-requires-2 c κs =
-    let f = c.before.before.before.before.before.before.before.before.before.before.before.before.before.before.before.args.file.now in
-    let o = c.before.before.before.before.before.before.before.before.before.before.before.before.before.before.before.args.words.now in
-    let b = whole_blocks f o (ap (λ (v : Verdict). v.number) (sym c.before.before.before.before.before.before.before.before.before.before.before.before.row-verdict.ensures) ∙ c.before.before.before.before.before.before.before.before.before.before.if1.false) in
+    let f = c.args.file.now in
+    let o = c.args.words.now in
+    let b = whole_blocks f o (ap (λ (v : Verdict). v.number) (sym c.row_verdict-cut.ensures) ∙ c.if-cut-ne0.false) in
     omega (arith, b.0, b.1)
 
-cast-first-bad-2 : tie.Need-overflow-cast-first-bad-2
+cast-first-bad-2 : tie.Need-overflow_cast-num2_at-2
 cast-first-bad-2 c = search rules
 
-first-bad-requires : tie.Need-first-bad-requires
+first-bad-requires : tie.Need-first_bad-k-requires
 first-bad-requires c κs =
-    let f = c.before.before.before.before.before.before.before.before.before.before.before.before.before.before.before.before.args.file.now in
-    let o = c.before.before.before.before.before.before.before.before.before.before.before.before.before.before.before.before.args.words.now in
-    let L = laid f (clean_fit 14 (laid_out f) [] (λ z. omega arith) (ap (λ (v : Verdict). v.number) (sym (rw c.before.before.before.before.before.before.before.before.before.laid_out.ensures at c.before.before.before.before.before.row-verdict3.ensures)) ∙ c.before.before.before.if3.false)).0 in
-    (laid_sides f c.before.num2-at.result c.num2-at2.result L c.before.num2-at.ensures.0 c.num2-at2.ensures.0, laid_holds f c.before.before.num4-at.result L c.before.before.num4-at.ensures)
+    let f = c.args.file.now in
+    let o = c.args.words.now in
+    let L = laid f (clean_fit 14 (laid_out f) [] (λ z. omega arith) (ap (λ (v : Verdict). v.number) (sym (rw c.laid_out-laid.ensures at c.row_verdict-layout.ensures)) ∙ c.if-layout-ne0.false)).0 in
+    (laid_sides f c.num2_at.result c.num2_at-2.result L c.num2_at.ensures.0 c.num2_at-2.ensures.0, laid_holds f c.num4_at-n.result L c.num4_at-n.ensures)
 
-row-verdict-requires-4 : tie.Need-row-verdict-requires-4
+row-verdict-requires-4 : tie.Need-row_verdict-fit-requires
 row-verdict-requires-4 c κs = search rules
 
-returns-4 : tie.Need-returns-4
+returns-4 : tie.Need-returns-then-fit-ne0
 returns-4 c =
-    let f = c.before.before.before.before.before.before.before.before.before.before.before.before.before.before.before.before.before.before.before.before.args.file.now in
-    let o = c.before.before.before.before.before.before.before.before.before.before.before.before.before.before.before.before.before.before.before.before.args.words.now in
-    gone_on (r12 f o ∷ []) (r13 f o ∷ r14 f o ∷ r8 f o ∷ r6 f o ∷ []) _ _ refl c.before.before.before.before.before.before.before.before.before.before.before.before.before.before.before.before.before.row-verdict.ensures c.before.before.before.before.before.before.before.before.before.before.before.before.before.before.before.if1.false
-    (gone_on (r13 f o ∷ []) (r14 f o ∷ r8 f o ∷ r6 f o ∷ []) _ _ refl (c.before.before.before.before.before.before.before.before.before.before.before.before.row-verdict2.ensures ∙ ap (λ (n : ℕ). verdict (row_at 13 (ltb n (blocks f)) n ∷ [])) c.before.before.before.before.before.before.before.before.before.before.before.before.before.before.first-bad-block.ensures) c.before.before.before.before.before.before.before.before.before.before.if2.false
-    (gone_on (r14 f o ∷ []) (r8 f o ∷ r6 f o ∷ []) _ _ refl (rw c.before.before.before.before.before.before.before.before.before.before.before.before.before.laid_out.ensures at c.before.before.before.before.before.before.before.before.before.row-verdict3.ensures) c.before.before.before.before.before.before.before.if3.false (stopped (r8 f o ∷ []) (r6 f o ∷ []) _ (given-8 f o _ _ _ (c.before.before.before.first-bad.ensures ∙ bad-at f c.before.before.before.before.before.num2-at.ensures.0 c.before.before.before.before.num2-at2.ensures.0) c.before.before.before.before.before.before.num4-at.ensures c.before.before.row-verdict4.ensures) c.if4.true)))
+    let f = c.args.file.now in
+    let o = c.args.words.now in
+    gone_on (r12 f o ∷ []) (r13 f o ∷ r14 f o ∷ r8 f o ∷ r6 f o ∷ []) _ _ refl c.row_verdict-cut.ensures c.if-cut-ne0.false
+    (gone_on (r13 f o ∷ []) (r14 f o ∷ r8 f o ∷ r6 f o ∷ []) _ _ refl (c.row_verdict-check.ensures ∙ ap (λ (n : ℕ). verdict (row_at 13 (ltb n (blocks f)) n ∷ [])) c.first_bad_block-b.ensures) c.if-check-ne0.false
+    (gone_on (r14 f o ∷ []) (r8 f o ∷ r6 f o ∷ []) _ _ refl (rw c.laid_out-laid.ensures at c.row_verdict-layout.ensures) c.if-layout-ne0.false (stopped (r8 f o ∷ []) (r6 f o ∷ []) _ (given-8 f o _ _ _ (c.first_bad-k.ensures ∙ bad-at f c.num2_at.ensures.0 c.num2_at-2.ensures.0) c.num4_at-n.ensures c.row_verdict-fit.ensures) c.if-fit-ne0.true)))
 
-row-verdict-requires-5 : tie.Need-row-verdict-requires-5
+row-verdict-requires-5 : tie.Need-row_verdict-requires
 row-verdict-requires-5 c κs = search rules
 
-returns-5 : tie.Need-returns-5
+returns-5 : tie.Need-returns
 returns-5 c =
-    let f = c.before.before.before.before.before.before.before.before.before.before.before.before.before.before.before.before.before.before.before.before.before.args.file.now in
-    let o = c.before.before.before.before.before.before.before.before.before.before.before.before.before.before.before.before.before.before.before.before.before.args.words.now in
-    gone_on (r12 f o ∷ []) (r13 f o ∷ r14 f o ∷ r8 f o ∷ r6 f o ∷ []) _ _ refl c.before.before.before.before.before.before.before.before.before.before.before.before.before.before.before.before.before.before.row-verdict.ensures c.before.before.before.before.before.before.before.before.before.before.before.before.before.before.before.before.if1.false
-    (gone_on (r13 f o ∷ []) (r14 f o ∷ r8 f o ∷ r6 f o ∷ []) _ _ refl (c.before.before.before.before.before.before.before.before.before.before.before.before.before.row-verdict2.ensures ∙ ap (λ (n : ℕ). verdict (row_at 13 (ltb n (blocks f)) n ∷ [])) c.before.before.before.before.before.before.before.before.before.before.before.before.before.before.before.first-bad-block.ensures) c.before.before.before.before.before.before.before.before.before.before.before.if2.false
-    (gone_on (r14 f o ∷ []) (r8 f o ∷ r6 f o ∷ []) _ _ refl (rw c.before.before.before.before.before.before.before.before.before.before.before.before.before.before.laid_out.ensures at c.before.before.before.before.before.before.before.before.before.before.row-verdict3.ensures) c.before.before.before.before.before.before.before.before.if3.false
-    (gone_on (r8 f o ∷ []) (r6 f o ∷ []) _ _ refl (given-8 f o _ _ _ (c.before.before.before.before.first-bad.ensures ∙ bad-at f c.before.before.before.before.before.before.num2-at.ensures.0 c.before.before.before.before.before.num2-at2.ensures.0) c.before.before.before.before.before.before.before.num4-at.ensures c.before.before.before.row-verdict4.ensures) c.before.if4.false (rw c.before.before.before.before.before.before.before.num4-at.ensures at c.row-verdict5.ensures))))
+    let f = c.args.file.now in
+    let o = c.args.words.now in
+    gone_on (r12 f o ∷ []) (r13 f o ∷ r14 f o ∷ r8 f o ∷ r6 f o ∷ []) _ _ refl c.row_verdict-cut.ensures c.if-cut-ne0.false
+    (gone_on (r13 f o ∷ []) (r14 f o ∷ r8 f o ∷ r6 f o ∷ []) _ _ refl (c.row_verdict-check.ensures ∙ ap (λ (n : ℕ). verdict (row_at 13 (ltb n (blocks f)) n ∷ [])) c.first_bad_block-b.ensures) c.if-check-ne0.false
+    (gone_on (r14 f o ∷ []) (r8 f o ∷ r6 f o ∷ []) _ _ refl (rw c.laid_out-laid.ensures at c.row_verdict-layout.ensures) c.if-layout-ne0.false
+    (gone_on (r8 f o ∷ []) (r6 f o ∷ []) _ _ refl (given-8 f o _ _ _ (c.first_bad-k.ensures ∙ bad-at f c.num2_at.ensures.0 c.num2_at-2.ensures.0) c.num4_at-n.ensures c.row_verdict-fit.ensures) c.if-fit-ne0.false (rw c.num4_at-n.ensures at c.row_verdict.ensures))))
 
 pub read_verdict_spec : {M : Type 1} → statement M
 read_verdict_spec =
     tie.close
-    (tie.spec
-    row-verdict-requires
-    returns
-    first-bad-block-requires
-    laid-out-requires
-    row-verdict-requires-2
-    returns-2
-    row-verdict-requires-3
-    returns-3
-    num4-at-requires
-    cast-n
-    num2-at-requires
-    cast-first-bad
-    num2-at-requires-2
-    cast-first-bad-2
-    first-bad-requires
-    row-verdict-requires-4
-    returns-4
-    row-verdict-requires-5
-    returns-5)
+    (tie.spec row-verdict-requires returns first-bad-block-requires laid-out-requires row-verdict-requires-2 returns-2 row-verdict-requires-3 returns-3 num4-at-requires cast-n num2-at-requires cast-first-bad num2-at-requires-2 cast-first-bad-2 first-bad-requires row-verdict-requires-4 returns-4 row-verdict-requires-5 returns-5)

@@ -8,66 +8,53 @@ use borrow.Author.Rules.{rules}
 use Rattle.olr.proofs.get.tail_fits.Statement.{statement}
 use Rattle.olr.proofs.get.tail_fits.Tie as tie
 
-num4-at-requires : tie.Need-num4-at-requires
+num4-at-requires : tie.Need-num4_at-requires
 num4-at-requires c κs = search rules
 
-cast-r : tie.Need-overflow-cast-r
+cast-r : tie.Need-overflow_cast-r
 cast-r c = search rules
 
-returns : tie.Need-returns
+returns : tie.Need-returns-then-r-eq0
 returns c =
-    let r = c.before.num4-at.result % 127 in
-    let z : r ≡ 0 = omega (arith, c.if1.true) in
-    after_none c.before.before.before.args.file.now r (ap (λ (n : ℕ). n % 127) c.before.num4-at.ensures) z
+    let r = c.num4_at.result % 127 in
+    let z : r ≡ 0 = omega (arith, c.if-r-eq0.true) in
+    after_none c.args.file.now r (ap (λ (n : ℕ). n % 127) c.num4_at.ensures) z
 
-sub_at : tie.Need-overflow-sub-at
+sub_at : tie.Need-overflow_sub-at
 sub_at c = search rules
 
-mul_at : tie.Need-overflow-mul-at
+mul_at : tie.Need-overflow_mul-at
 mul_at c = search rules
 
-mul-all-zero : tie.Need-overflow-mul-all-zero
+mul-all-zero : tie.Need-overflow_mul-r
 mul-all-zero c = search rules
 
-add-all-zero : tie.Need-overflow-add-all-zero
+add-all-zero : tie.Need-overflow_add-at
 add-all-zero c = search rules
 
-add-all-zero-2 : tie.Need-overflow-add-all-zero-2
+add-all-zero-2 : tie.Need-overflow_add-at-2
 add-all-zero-2 c = search rules
 
-sub-all-zero : tie.Need-overflow-sub-all-zero
+sub-all-zero : tie.Need-slice_bounds-all_zero-count
 sub-all-zero c = search rules
 
-part-all-zero-start : tie.Need-slice-bounds-all-zero-start
+part-all-zero-start : tie.Need-slice_bounds-all_zero-start
 part-all-zero-start c = search rules
 
-part-all-zero-end : tie.Need-slice-bounds-all-zero-end
+part-all-zero-end : tie.Need-slice_bounds-all_zero-end
 part-all-zero-end c = search rules
 
-all-zero-requires : tie.Need-all-zero-requires
+all-zero-requires : tie.Need-all_zero-requires
 all-zero-requires c κs = search rules
 
-returns-2 : tie.Need-returns-2
+returns-2 : tie.Need-returns
 returns-2 c =
-    let f = c.before.before.before.before.before.args.file.now in
-    let r = c.before.before.before.num4-at.result % 127 in
-    let z : r ≡ 0 → ⊥ = omega (arith, c.before.before.if1.false) in
-    c.all-zero.ensures ∙ ap zeros (after_some f r (ap (λ (n : ℕ). n % 127) c.before.before.before.num4-at.ensures) (512 * (blocks f - 1)) refl z)
+    let f = c.args.file.now in
+    let r = c.num4_at.result % 127 in
+    let z : r ≡ 0 → ⊥ = omega (arith, c.if-r-eq0.false) in
+    c.all_zero.ensures ∙ ap zeros (after_some f r (ap (λ (n : ℕ). n % 127) c.num4_at.ensures) (512 * (blocks f - 1)) refl z)
 
 pub tail_fits_spec : {M : Type 1} → statement M
 tail_fits_spec =
     tie.close
-    (tie.spec
-    num4-at-requires
-    cast-r
-    returns
-    sub_at
-    mul_at
-    mul-all-zero
-    add-all-zero
-    add-all-zero-2
-    sub-all-zero
-    part-all-zero-start
-    part-all-zero-end
-    all-zero-requires
-    returns-2)
+    (tie.spec num4-at-requires cast-r returns sub_at mul_at mul-all-zero add-all-zero add-all-zero-2 sub-all-zero part-all-zero-start part-all-zero-end all-zero-requires returns-2)

@@ -13,13 +13,13 @@ put2-requires c κs = search rules
 put2-requires-2 : tie.Need-put2-requires-2
 put2-requires-2 c κs = search rules
 
-same_length : tie.Need-same-length
+same_length : tie.Need-shape_of-s
 same_length c = search rules
 
 returns : tie.Need-returns
 returns c =
-    let s = c.before.before.before.before.before.before.before.before.before.before.before.before.before.args in
-    sides_put s.s.now c.before.before.before.before.before.before.before.before.before.before.put4.new.0 c.before.before.before.before.before.before.put2.new.0 c.before.before.put22.new.0 s.w s.h c.before.before.before.before.before.before.before.before.before.before.put4.ensures c.before.before.before.before.before.before.put2.ensures c.before.before.put22.ensures
+    let s = c.args in
+    sides_put s.s.now c.put4.new.s c.put2.new.s c.put2-2.new.s s.w s.h c.put4.ensures c.put2.ensures c.put2-2.ensures
 
 pub put_sides_spec : {M : Type 1} → statement M
 put_sides_spec =

@@ -9,47 +9,37 @@ use native.Mathlib.Omega.{arith}
 use Rattle.pgm.proofs.raster.white_end.Statement.{statement}
 use Rattle.pgm.proofs.raster.white_end.Tie as tie
 
-abbrev invariant-loop : tie.invariant-loop
+abbrev invariant-loop : tie.invariant-loop-i
 invariant-loop s p i₀ i = WhiteAt s p i
 
-abbrev decreases-loop : tie.decreases-loop
+abbrev decreases-loop : tie.decreases-loop-i
 decreases-loop s p i₀ i = length s - i
 
-loop-holds : tie.Need-loop-init invariant-loop decreases-loop
-loop-holds c = white_begin _ _ c.before.requires
+loop-holds : tie.Need-loop-i-init invariant-loop decreases-loop
+loop-holds c = white_begin _ _ c.requires
 
-shared-slice-read-is-white : tie.Need-shared-slice-read-is-white invariant-loop decreases-loop
+shared-slice-read-is-white : tie.Need-bounds-s-i invariant-loop decreases-loop
 shared-slice-read-is-white c = search rules
 
-is-white-requires : tie.Need-is-white-requires invariant-loop decreases-loop
+is-white-requires : tie.Need-is_white-requires invariant-loop decreases-loop
 is-white-requires c κs = search rules
 
-returns : tie.Need-returns invariant-loop decreases-loop
-returns c = (white_stop _ _ _ c.before.before.before.before.loop.invariant c.before.before.before.loop-test.true (sym c.before.is_white.ensures ∙ not-true _ c.if1.true), c.before.before.before.before.loop.invariant.inside)
+returns : tie.Need-returns-then-not-is_white invariant-loop decreases-loop
+returns c = (white_stop _ _ _ c.loop-i.invariant c.loop-i-test.true (sym c.is_white.ensures ∙ not-true _ c.if-not-is_white.true-raw), c.loop-i.invariant.inside)
 
-add-i : tie.Need-overflow-add-i invariant-loop decreases-loop
+add-i : tie.Need-overflow_add-i invariant-loop decreases-loop
 add-i c = search rules
 
-loop-less : tie.Need-loop-smaller invariant-loop decreases-loop
+loop-less : tie.Need-loop-i-smaller invariant-loop decreases-loop
 loop-less c = search rules
 
-loop-again : tie.Need-loop-preserved invariant-loop decreases-loop
-loop-again c = white_more _ _ _ c.before.before.before.before.loop.invariant c.before.before.before.loop-test.true (sym c.before.is_white.ensures ∙ not-false _ c.if1.false)
+loop-again : tie.Need-loop-i-preserved invariant-loop decreases-loop
+loop-again c = white_more _ _ _ c.loop-i.invariant c.loop-i-test.true (sym c.is_white.ensures ∙ not-false _ c.if-not-is_white.false-raw)
 
-returns-2 : tie.Need-returns-2 invariant-loop decreases-loop
-returns-2 c = (white_full _ _ _ c.before.loop.invariant (omega arith), c.before.loop.invariant.inside)
+returns-2 : tie.Need-returns invariant-loop decreases-loop
+returns-2 c = (white_full _ _ _ c.loop-i.invariant (omega arith), c.loop-i.invariant.inside)
 
 pub white_end_spec : {M : Type 1} → statement M
 white_end_spec =
     tie.close
-    (tie.spec
-    invariant-loop
-    decreases-loop
-    loop-holds
-    shared-slice-read-is-white
-    is-white-requires
-    returns
-    add-i
-    loop-less
-    loop-again
-    returns-2)
+    (tie.spec invariant-loop decreases-loop loop-holds shared-slice-read-is-white is-white-requires returns add-i loop-less loop-again returns-2)

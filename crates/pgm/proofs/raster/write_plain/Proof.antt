@@ -8,51 +8,40 @@ use native.Mathlib.Omega.{arith}
 use Rattle.pgm.proofs.raster.write_plain.Statement.{statement}
 use Rattle.pgm.proofs.raster.write_plain.Tie as tie
 
-abbrev invariant-loop : tie.invariant-loop
+abbrev invariant-loop : tie.invariant-loop-j
 invariant-loop s m n p room₀ i₀ j₀ room i j = (length room ≡ length room₀) × Writing s m n p room₀ room i j
 
-abbrev decreases-loop : tie.decreases-loop
+abbrev decreases-loop : tie.decreases-loop-j
 decreases-loop s m n p room₀ i₀ j₀ room i j = n - j
 
-loop-holds : tie.Need-loop-init invariant-loop decreases-loop
-loop-holds c = (refl, writing_begin _ _ _ _ _ c.before.before.requires.1 c.before.before.requires.0)
+loop-holds : tie.Need-loop-j-init invariant-loop decreases-loop
+loop-holds c = (refl, writing_begin _ _ _ _ _ c.requires.1 c.requires.0)
 
-plain-at-requires : tie.Need-plain-at-requires invariant-loop decreases-loop
-plain-at-requires c κs = c.before.loop.invariant.1.inside
+plain-at-requires : tie.Need-plain_at-t-requires invariant-loop decreases-loop
+plain-at-requires c κs = c.loop-j.invariant.1.inside
 
-cast-room : tie.Need-overflow-cast-room invariant-loop decreases-loop
-cast-room c = omega (arith, writing_value _ _ _ _ _ _ _ _ c.before.before.before.loop.invariant.1 c.before.before.loop-test.true (omega arith) _ c.before.plain_at.ensures.0)
+cast-room : tie.Need-overflow_cast-room invariant-loop decreases-loop
+cast-room c = omega (arith, writing_value _ _ _ _ _ _ _ _ c.loop-j.invariant.1 c.loop-j-test.true (omega arith) _ c.plain_at-t.ensures.0)
 
-slice-write-room : tie.Need-slice-write-room invariant-loop decreases-loop
-slice-write-room c = omega (arith, c.before.before.before.loop.invariant.0)
+slice-write-room : tie.Need-bounds-room-j invariant-loop decreases-loop
+slice-write-room c = omega (arith, c.loop-j.invariant.0)
 
-add-j : tie.Need-overflow-add-j invariant-loop decreases-loop
+add-j : tie.Need-overflow_add-j invariant-loop decreases-loop
 add-j c = search rules
 
-loop-less : tie.Need-loop-smaller invariant-loop decreases-loop
+loop-less : tie.Need-loop-j-smaller invariant-loop decreases-loop
 loop-less c = search rules
 
-loop-again : tie.Need-loop-preserved invariant-loop decreases-loop
-loop-again c = (simp length-set c.before.before.before.loop.invariant.0, writing_more _ _ _ _ _ _ _ _ c.before.before.before.loop.invariant.1 c.before.before.loop-test.true (omega arith) _ c.before.plain_at.ensures.0 c.before.plain_at.ensures.2 (omega (arith, c.before.before.before.loop.invariant.0)))
+loop-again : tie.Need-loop-j-preserved invariant-loop decreases-loop
+loop-again c = (simp length-set c.loop-j.invariant.0, writing_more _ _ _ _ _ _ _ _ c.loop-j.invariant.1 c.loop-j-test.true (omega arith) _ c.plain_at-t.ensures.0 c.plain_at-t.ensures.2 (omega (arith, c.loop-j.invariant.0)))
 
-same_length : tie.Need-same-length invariant-loop decreases-loop
-same_length c = c.before.loop.invariant.0
+same_length : tie.Need-shape_of-room invariant-loop decreases-loop
+same_length c = c.loop-j.invariant.0
 
 returns : tie.Need-returns invariant-loop decreases-loop
-returns c = writing_end _ _ _ _ _ _ _ _ c.before.loop.invariant.1 (omega arith) c.before.before.before.before.requires.2
+returns c = writing_end _ _ _ _ _ _ _ _ c.loop-j.invariant.1 (omega arith) c.requires.2
 
 pub write_plain_spec : {M : Type 1} → statement M
 write_plain_spec =
     tie.close
-    (tie.spec
-    invariant-loop
-    decreases-loop
-    loop-holds
-    plain-at-requires
-    cast-room
-    slice-write-room
-    add-j
-    loop-less
-    loop-again
-    same_length
-    returns)
+    (tie.spec invariant-loop decreases-loop loop-holds plain-at-requires cast-room slice-write-room add-j loop-less loop-again same_length returns)

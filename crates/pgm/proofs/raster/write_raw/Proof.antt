@@ -11,51 +11,40 @@ use native.Mathlib.Omega.{arith}
 use Rattle.pgm.proofs.raster.write_raw.Statement.{statement}
 use Rattle.pgm.proofs.raster.write_raw.Tie as tie
 
-abbrev invariant-loop : tie.invariant-loop
+abbrev invariant-loop : tie.invariant-loop-j
 invariant-loop s m n p room₀ j₀ room j = (j ≤ n) × (p + n ≤ length s) × (length room ≡ length room₀) × (Filled (λ k. get_or s (p + k) 0) room₀ j room)
 
-abbrev decreases-loop : tie.decreases-loop
+abbrev decreases-loop : tie.decreases-loop-j
 decreases-loop s m n p room₀ j₀ room j = n - j
 
-loop-holds : tie.Need-loop-init invariant-loop decreases-loop
+loop-holds : tie.Need-loop-j-init invariant-loop decreases-loop
 loop-holds c = (omega arith, raw_inside _ _ _ _ c.requires.1 c.requires.0, refl, filled_none _ _)
 
-add-room : tie.Need-overflow-add-room invariant-loop decreases-loop
-add-room c = omega (arith, c.before.loop.invariant.1)
+add-room : tie.Need-overflow_add-room invariant-loop decreases-loop
+add-room c = omega (arith, c.loop-j.invariant.1)
 
-shared-slice-read-room : tie.Need-shared-slice-read-room invariant-loop decreases-loop
-shared-slice-read-room c = omega (arith, c.before.before.loop.invariant.1)
+shared-slice-read-room : tie.Need-bounds-s-p invariant-loop decreases-loop
+shared-slice-read-room c = omega (arith, c.loop-j.invariant.1)
 
-slice-write-room : tie.Need-slice-write-room invariant-loop decreases-loop
-slice-write-room c = omega (arith, c.before.before.loop.invariant.2)
+slice-write-room : tie.Need-bounds-room-j invariant-loop decreases-loop
+slice-write-room c = omega (arith, c.loop-j.invariant.2)
 
-add-j : tie.Need-overflow-add-j invariant-loop decreases-loop
+add-j : tie.Need-overflow_add-j invariant-loop decreases-loop
 add-j c = search rules
 
-loop-less : tie.Need-loop-smaller invariant-loop decreases-loop
+loop-less : tie.Need-loop-j-smaller invariant-loop decreases-loop
 loop-less c = search rules
 
-loop-again : tie.Need-loop-preserved invariant-loop decreases-loop
-loop-again c = (omega arith, c.before.before.loop.invariant.1, simp length-set c.before.before.loop.invariant.2, filled_more _ _ _ _ _ c.before.before.loop.invariant.3 (omega (arith, c.before.before.loop.invariant.2, c.before.before.before.requires.2)) refl)
+loop-again : tie.Need-loop-j-preserved invariant-loop decreases-loop
+loop-again c = (omega arith, c.loop-j.invariant.1, simp length-set c.loop-j.invariant.2, filled_more _ _ _ _ _ c.loop-j.invariant.3 (omega (arith, c.loop-j.invariant.2, c.requires.2)) refl)
 
-same_length : tie.Need-same-length invariant-loop decreases-loop
-same_length c = c.before.loop.invariant.2
+same_length : tie.Need-shape_of-room invariant-loop decreases-loop
+same_length c = c.loop-j.invariant.2
 
 returns : tie.Need-returns invariant-loop decreases-loop
-returns c = let a = c.before.before.args in let e : c.before.loop.j ≡ a.n = omega arith in filled_list _ _ _ _ (rw e at c.before.loop.invariant.3) c.before.before.requires.2 ∙ ap (λ (z : List ℕ). z ++ drop a.n a.room.now) (sym (raw_list a.s.now a.n a.p c.before.loop.invariant.1))
+returns c = let a = c.args in let e : c.loop-j.j ≡ a.n = omega arith in filled_list _ _ _ _ (rw e at c.loop-j.invariant.3) c.requires.2 ∙ ap (λ (z : List ℕ). z ++ drop a.n a.room.now) (sym (raw_list a.s.now a.n a.p c.loop-j.invariant.1))
 
 pub write_raw_spec : {M : Type 1} → statement M
 write_raw_spec =
     tie.close
-    (tie.spec
-    invariant-loop
-    decreases-loop
-    loop-holds
-    add-room
-    shared-slice-read-room
-    slice-write-room
-    add-j
-    loop-less
-    loop-again
-    same_length
-    returns)
+    (tie.spec invariant-loop decreases-loop loop-holds add-room shared-slice-read-room slice-write-room add-j loop-less loop-again same_length returns)

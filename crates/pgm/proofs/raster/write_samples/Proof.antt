@@ -3,23 +3,23 @@ use borrow.Author.Rules.{rules}
 use Rattle.pgm.proofs.raster.write_samples.Statement.{statement}
 use Rattle.pgm.proofs.raster.write_samples.Tie as tie
 
-write-plain-requires : tie.Need-write-plain-requires
-write-plain-requires c κs = (rw c.before.if1.true at c.before.before.before.before.requires.0, c.before.before.before.before.requires.1, c.before.before.before.before.requires.2)
+write-plain-requires : tie.Need-write_plain-requires
+write-plain-requires c κs = (rw c.if-plain.true at c.requires.0, c.requires.1, c.requires.2)
 
-write-raw-requires : tie.Need-write-raw-requires
-write-raw-requires c κs = (rw c.before.if1.false at c.before.before.before.before.requires.0, c.before.before.before.before.requires.1, c.before.before.before.before.requires.2)
+write-raw-requires : tie.Need-write_raw-requires
+write-raw-requires c κs = (rw c.if-plain.false at c.requires.0, c.requires.1, c.requires.2)
 
-same_length : tie.Need-same-length
+same_length : tie.Need-shape_of-room-then-plain
 same_length c = search rules
 
-returns : tie.Need-returns
-returns c = rw c.before.before.before.before.if1.true c.before.before.write-plain.ensures
+returns : tie.Need-returns-then-plain
+returns c = rw c.if-plain.true c.write_plain.ensures
 
-same-length-2 : tie.Need-same-length-2
+same-length-2 : tie.Need-shape_of-room-else-plain
 same-length-2 c = search rules
 
-returns-2 : tie.Need-returns-2
-returns-2 c = rw c.before.before.before.before.if1.false c.before.before.write-raw.ensures
+returns-2 : tie.Need-returns-else-plain
+returns-2 c = rw c.if-plain.false c.write_raw.ensures
 
 pub write_samples_spec : {M : Type 1} → statement M
 write_samples_spec =

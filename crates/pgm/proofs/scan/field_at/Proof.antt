@@ -6,14 +6,14 @@ use borrow.Author.Rules.{rules}
 use Rattle.pgm.proofs.scan.field_at.Statement.{statement}
 use Rattle.pgm.proofs.scan.field_at.Tie as tie
 
-gap-end-requires : tie.Need-gap-end-requires
+gap-end-requires : tie.Need-gap_end-q-requires
 gap-end-requires c κs = search rules
 
-number-at-requires : tie.Need-number-at-requires
+number-at-requires : tie.Need-number_at-requires
 number-at-requires c κs = search rules
 
 returns : tie.Need-returns
-returns c = let e = c.number_at.ensures.0 ∙ ap (λ (z : ℕ). capped (number_at c.before.before.before.args.s.now z)) c.before.gap-end.ensures.0 in (e, c.number_at.ensures.1, c.number_at.ensures.2)
+returns c = let e = c.number_at.ensures.0 ∙ ap (λ (z : ℕ). capped (number_at c.args.s.now z)) c.gap_end-q.ensures.0 in (e, c.number_at.ensures.1, c.number_at.ensures.2)
 
 pub field_at_spec : {M : Type 1} → statement M
 field_at_spec = tie.close (tie.spec gap-end-requires number-at-requires returns)

@@ -7,20 +7,20 @@ use native.Mathlib.Omega.{arith}
 use Rattle.pgm.proofs.scan.more.Statement.{statement}
 use Rattle.pgm.proofs.scan.more.Tie as tie
 
-mul_next : tie.Need-overflow-mul-next
+mul_next : tie.Need-overflow_mul-next
 mul_next c = search rules
 
-sub-next : tie.Need-overflow-sub-next
+sub-next : tie.Need-overflow_sub-next
 sub-next c = omega arith
 
-add-next : tie.Need-overflow-add-next
+add-next : tie.Need-overflow_add-next
 add-next c = search rules
 
-returns : tie.Need-returns
-returns c = (sym (cap_small _ c.if1.true), c.if1.true)
+returns : tie.Need-returns-then-next-le65535
+returns c = (sym (cap_small _ c.if-next-le65535.true), c.if-next-le65535.true)
 
-returns-2 : tie.Need-returns-2
-returns-2 c = (sym (cap_large (c.before.args.v * 10 + (c.before.args.b - 48)) (omega arith)), omega arith)
+returns-2 : tie.Need-returns
+returns-2 c = (sym (cap_large (c.args.v * 10 + (c.args.b - 48)) (omega arith)), omega arith)
 
 pub more_spec : {M : Type 1} → statement M
 more_spec = tie.close (tie.spec mul_next sub-next add-next returns returns-2)

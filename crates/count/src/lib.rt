@@ -1,5 +1,6 @@
 // How many words the list will have: the crossed edgels of all levels.
 #![tactic(auto)]
+
 mod stepped;
 
 ghost use Rattle.std.specs.Prelude.{◌≡◌, Bool, true, false, ℕ, ◌+◌, ◌*◌, ◌-◌, ◌≤◌, ◌<◌, ltb, length, get_or};

@@ -41,7 +41,7 @@ module _ {L : Layout} {P : Picture} {ks : List ℕ} (S : Setting L P ks) where
       ⊎_elim
       (λ (T : Above S n a).
       let s : T.p ≡ p = omega (arith, T.is) in
-      subst (λ (z : ℕ). (b : z < all) × Parent L (line_of S z b) (line_of S n a)) s (T.in_List, T.parent))
+      subst (λ (z : ℕ). (b : z < all) × Parent L (line_of S z b) (line_of S n a)) s (T.in_list, T.parent))
       (λ (z : (up n ≡ 0) × Root L (line_of S n a)). absurd (omega (arith, z.0)))
       (parent_or S n a)
 
@@ -80,7 +80,7 @@ module _ {L : Layout} {P : Picture} {ks : List ℕ} (S : Setting L P ks) where
     Z = number_of S b.q
 
     abbrev q' : Line P ks
-    q' = line_of S Z.n Z.in_List
+    q' = line_of S Z.n Z.in_list
 
     nm : lead_key L q' ≡ lead_key L b.q
     nm = named S b.q Z
@@ -90,17 +90,17 @@ module _ {L : Layout} {P : Picture} {ks : List ℕ} (S : Setting L P ks) where
     along = not (differ (high P b.q.lvl (first b.d)) (high P b.q.lvl (first b.q.lead)))
 
     pub neighbour_in : along ≡ true → parent L P ks n ≡ suc (number_of S b.q).n
-    neighbour_in e = is_parent S n Z.n a Z.in_List (parent_alike S b.q q' N (sym nm) (enters_parent S N b (entering S N b ∙ e)))
+    neighbour_in e = is_parent S n Z.n a Z.in_list (parent_alike S b.q q' N (sym nm) (enters_parent S N b (entering S N b ∙ e)))
 
     pub neighbour_out : along ≡ false → parent L P ks n ≡ parent L P ks (number_of S b.q).n
     neighbour_out e =
         let o : encloses L b.q N ≡ false = entering S N b ∙ e in
         ⊎_elim
-        (λ (T : Above S Z.n Z.in_List).
-        let R = line_of S T.p T.in_List in
-        is_parent S n T.p a T.in_List (parent_leaves S N b o R (child_alike S R q' b.q nm T.parent)) ∙ sym T.is)
+        (λ (T : Above S Z.n Z.in_list).
+        let R = line_of S T.p T.in_list in
+        is_parent S n T.p a T.in_list (parent_leaves S N b o R (child_alike S R q' b.q nm T.parent)) ∙ sym T.is)
         (λ (z : (up Z.n ≡ 0) × Root L q'). is_root S n a (root_leaves S N b o (root_alike S q' b.q nm z.1)) ∙ sym z.0)
-        (parent_or S Z.n Z.in_List)
+        (parent_or S Z.n Z.in_list)
 
   pub neighbour_none : (n : ℕ) (a : n < line_count L P ks) → ((M : Line P ks) (e : ℕ) → Ahead L M e (line_of S n a) → ⊥) → parent L P ks n ≡ 0
   neighbour_none n a q = is_root S n a (none_root S (line_of S n a) q)

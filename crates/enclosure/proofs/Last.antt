@@ -166,7 +166,7 @@ module _ {L : Layout} {P : Picture} {ks : List ℕ} (S : Setting L P ks) where
     unfolding line_of neighbour
     named s =
         let N = number_of S (line_of S m A.number) in
-        number_once S N.n m N.in_List A.number N.level N.code
+        number_once S N.n m N.in_list A.number N.level N.code
 
     -- on the same row: it decides the parent
     pub from_left : row P.w d ≡ row P.w (lead_at L P ks n) → parent L P ks n ≡ cond (straight L P ks m d) (suc m) (parent L P ks m)

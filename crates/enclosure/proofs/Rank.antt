@@ -126,7 +126,7 @@ module _ {L : Layout} {P : Picture} {ks : List ℕ} (S : Setting L P ks) where
         m = N.n;
         d = d;
         on = record {
-          number = N.in_List;
+          number = N.in_list;
           flat = A.flat;
           here =
               ltb-true _ _

@@ -1,5 +1,6 @@
 // The next place whose horizontal edgel is crossed and not visited yet.
 #![tactic(auto)]
+
 mod bounds;
 mod within;
 

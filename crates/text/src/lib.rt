@@ -1,5 +1,6 @@
 // The text that the listing program prints, put into a lent buffer piece by piece. Each piece is put at a place and hands back the next one.
 #![tactic(auto)]
+
 ghost use Rattle.std.specs.Prelude.{◌≡◌, [], ◌∷◌, ◌++◌, ◌+◌, ◌*◌, ◌/◌, ◌%◌, ◌≤◌, ◌<◌, length, get_or};
 ghost use Rattle.tally.specs.Tally.{one, first_at};
 ghost use Rattle.matte.specs.Layout.{eight};

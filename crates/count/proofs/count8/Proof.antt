@@ -11,87 +11,70 @@ use Rattle.count.proofs.Counting.{pairs_most}
 use Rattle.count.proofs.count8.Statement.{statement}
 use Rattle.count.proofs.count8.Tie as tie
 
-abbrev invariant-loop : tie.invariant-loop
+abbrev invariant-loop : tie.invariant-loop-i
 invariant-loop px w k from n₀ i₀ n i = (i ≤ 64) × (n ≡ sum (λ j. pair_at px w k (from + j)) i)
 
-abbrev decreases-loop : tie.decreases-loop
+abbrev decreases-loop : tie.decreases-loop-i
 decreases-loop px w k from n₀ i₀ n i = 64 - i
 
-loop-holds : tie.Need-loop-init invariant-loop decreases-loop
+loop-holds : tie.Need-loop-i-init invariant-loop decreases-loop
 unfolding sum
 loop-holds c = (omega arith, refl)
 
-add-pair-of : tie.Need-overflow-add-pair-of invariant-loop decreases-loop
+add-pair-of : tie.Need-overflow_add-from invariant-loop decreases-loop
 add-pair-of c = search rules
 
-shared-slice-read-pair-of : tie.Need-shared-slice-read-pair-of invariant-loop decreases-loop
+shared-slice-read-pair-of : tie.Need-bounds-px-from invariant-loop decreases-loop
 shared-slice-read-pair-of c = search rules
 
-add-pair-of-2 : tie.Need-overflow-add-pair-of-2 invariant-loop decreases-loop
+add-pair-of-2 : tie.Need-overflow_add-from-in-loop-i invariant-loop decreases-loop
 add-pair-of-2 c = search rules
 
-add-pair-of-3 : tie.Need-overflow-add-pair-of-3 invariant-loop decreases-loop
+add-pair-of-3 : tie.Need-overflow_add-from-in-loop-i-2 invariant-loop decreases-loop
 add-pair-of-3 c = search rules
 
-shared-slice-read-pair-of-2 : tie.Need-shared-slice-read-pair-of-2 invariant-loop decreases-loop
+shared-slice-read-pair-of-2 : tie.Need-bounds-px-from-in-loop-i invariant-loop decreases-loop
 shared-slice-read-pair-of-2 c = search rules
 
-add-pair-of-4 : tie.Need-overflow-add-pair-of-4 invariant-loop decreases-loop
+add-pair-of-4 : tie.Need-overflow_add-from-in-loop-i-3 invariant-loop decreases-loop
 add-pair-of-4 c = search rules
 
-add-pair-of-5 : tie.Need-overflow-add-pair-of-5 invariant-loop decreases-loop
+add-pair-of-5 : tie.Need-overflow_add-from-in-loop-i-4 invariant-loop decreases-loop
 add-pair-of-5 c = search rules
 
-shared-slice-read-pair-of-3 : tie.Need-shared-slice-read-pair-of-3 invariant-loop decreases-loop
+shared-slice-read-pair-of-3 : tie.Need-bounds-px-from-in-loop-i-2 invariant-loop decreases-loop
 shared-slice-read-pair-of-3 c = search rules
 
-pair-of-requires : tie.Need-pair-of-requires invariant-loop decreases-loop
+pair-of-requires : tie.Need-pair_of-n-requires invariant-loop decreases-loop
 pair-of-requires c κs = tt
 
-add-n : tie.Need-overflow-add-n invariant-loop decreases-loop
+add-n : tie.Need-overflow_add-n invariant-loop decreases-loop
 add-n c =
-    let a = c.before.before.before.before.before.before.before.args in
-    let l = c.before.before.before.before.before.loop in
-    omega (arith, c.pair_of.ensures.1, l.invariant.1, pairs_most a.px.now a.w a.k a.from l.i, c.before.before.before.before.loop-test.true)
+    let a = c.args in
+    let l = c.loop-i in
+    omega (arith, c.pair_of-n.ensures.1, l.invariant.1, pairs_most a.px.now a.w a.k a.from l.i, c.loop-i-test.true)
 
-add-i : tie.Need-overflow-add-i invariant-loop decreases-loop
+add-i : tie.Need-overflow_add-i invariant-loop decreases-loop
 add-i c = search rules
 
-loop-less : tie.Need-loop-smaller invariant-loop decreases-loop
+loop-less : tie.Need-loop-i-smaller invariant-loop decreases-loop
 loop-less c = search rules
 
-loop-again : tie.Need-loop-preserved invariant-loop decreases-loop
+loop-again : tie.Need-loop-i-preserved invariant-loop decreases-loop
 loop-again c =
-    let a = c.before.before.before.before.before.before.before.args in
-    let l = c.before.before.before.before.before.loop in
-    (omega arith, ap (λ (z : ℕ). z + c.pair_of.result) l.invariant.1 ∙ ap (λ (z : ℕ). sum (λ j. pair_at a.px.now a.w a.k (a.from + j)) l.i + z) c.pair_of.ensures.0 ∙ sym (sum_next (λ j. pair_at a.px.now a.w a.k (a.from + j)) l.i))
+    let a = c.args in
+    let l = c.loop-i in
+    (omega arith, ap (λ (z : ℕ). z + c.pair_of-n.result) l.invariant.1 ∙ ap (λ (z : ℕ). sum (λ j. pair_at a.px.now a.w a.k (a.from + j)) l.i + z) c.pair_of-n.ensures.0 ∙ sym (sum_next (λ j. pair_at a.px.now a.w a.k (a.from + j)) l.i))
 
 returns : tie.Need-returns invariant-loop decreases-loop
 returns c =
-    let a = c.before.before.before.args in
-    let l = c.before.loop in
-    let e : l.i ≡ 64 = omega (arith, c.loop-test.false, l.invariant.0) in
+    let a = c.args in
+    let l = c.loop-i in
+    let e : l.i ≡ 64 = omega (arith, c.loop-i-test.false, l.invariant.0) in
     let r : l.n ≡ sum (λ j. pair_at a.px.now a.w a.k (a.from + j)) 64 = l.invariant.1 ∙ ap (sum (λ j. pair_at a.px.now a.w a.k (a.from + j))) e in
     (r, omega (arith, pairs_most a.px.now a.w a.k a.from 64))
 
 pub count8_spec : {M : Type 1} → statement M
 count8_spec =
     tie.close
-    (tie.spec
-    invariant-loop
-    decreases-loop
-    loop-holds
-    add-pair-of
-    shared-slice-read-pair-of
-    add-pair-of-2
-    add-pair-of-3
-    shared-slice-read-pair-of-2
-    add-pair-of-4
-    add-pair-of-5
-    shared-slice-read-pair-of-3
-    pair-of-requires
-    add-n
-    add-i
-    loop-less
-    loop-again
-    returns)
+    (tie.spec invariant-loop decreases-loop loop-holds add-pair-of shared-slice-read-pair-of add-pair-of-2 add-pair-of-3 shared-slice-read-pair-of-2 add-pair-of-4 add-pair-of-5 shared-slice-read-pair-of-3 pair-of-requires add-n add-i loop-less loop-again returns)

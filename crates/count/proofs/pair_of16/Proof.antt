@@ -10,23 +10,23 @@ use borrow.Author.Rules.{rules}
 use Rattle.count.proofs.pair_of16.Statement.{statement}
 use Rattle.count.proofs.pair_of16.Tie as tie
 
-one-if16-requires : tie.Need-one-if16-requires
+one-if16-requires : tie.Need-one_if16-requires
 one-if16-requires c κs = search rules
 
-one-if16-requires-2 : tie.Need-one-if16-requires-2
+one-if16-requires-2 : tie.Need-one_if16-requires-2
 one-if16-requires-2 c κs = search rules
 
-add-result : tie.Need-overflow-add-result
+add-result : tie.Need-overflow_add-result
 add-result c = search rules
 
 returns : tie.Need-returns
 returns c =
-    let a = c.before.before.args in
-    let x : c.before.one-if16.result ≡ one (differ (ltb a.k a.a) (ltb a.k a.b)) =
-    c.before.one-if16.ensures.0 ∙ ap one (unlike (ltb a.k a.a) (ltb a.k a.b)) in
-    let y : c.one-if162.result ≡ one (differ (ltb a.k a.a) (ltb a.k a.c)) =
-    c.one-if162.ensures.0 ∙ ap one (unlike (ltb a.k a.a) (ltb a.k a.c)) in
-    (omega arith, omega (arith, c.before.one-if16.ensures.1, c.one-if162.ensures.1))
+    let a = c.args in
+    let x : c.one_if16.result ≡ one (differ (ltb a.k a.a) (ltb a.k a.b)) =
+    c.one_if16.ensures.0 ∙ ap one (unlike (ltb a.k a.a) (ltb a.k a.b)) in
+    let y : c.one_if16-2.result ≡ one (differ (ltb a.k a.a) (ltb a.k a.c)) =
+    c.one_if16-2.ensures.0 ∙ ap one (unlike (ltb a.k a.a) (ltb a.k a.c)) in
+    (omega arith, omega (arith, c.one_if16.ensures.1, c.one_if16-2.ensures.1))
 
 pub pair_of16_spec : {M : Type 1} → statement M
 pair_of16_spec = tie.close (tie.spec one-if16-requires one-if16-requires-2 add-result returns)

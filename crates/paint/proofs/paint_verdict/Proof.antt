@@ -16,47 +16,39 @@ use borrow.Author.Rules.{rules}
 use Rattle.paint.proofs.paint_verdict.Statement.{statement}
 use Rattle.paint.proofs.paint_verdict.Tie as tie
 
-size-verdict-requires : tie.Need-size-verdict-requires
+size-verdict-requires : tie.Need-size_verdict-v-requires
 size-verdict-requires c κs = search rules
 
-returns : tie.Need-returns
-returns c = let a = c.before.before.before.before.before.args in (stopped (size_rows eight a.w a.h a.levels.now) ((words_fit_row eight a.w a.h a.levels.now a.words.now) ∷ (row 9 (ltb a.places (a.w * a.h))) ∷ []) _ c.before.before.size-verdict.ensures c.if1.true, λ z. absurd (c.if1.true z))
+returns : tie.Need-returns-then-v-ne0
+returns c = let a = c.args in (stopped (size_rows eight a.w a.h a.levels.now) ((words_fit_row eight a.w a.h a.levels.now a.words.now) ∷ (row 9 (ltb a.places (a.w * a.h))) ∷ []) _ c.size_verdict-v.ensures c.if-v-ne0.true, λ z. absurd (c.if-v-ne0.true z))
 
-first-bad-word-requires : tie.Need-first-bad-word-requires
-first-bad-word-requires c κs = let a = c.before.before.before.before.before.args in (of_size eight a.w a.h a.levels.now (ap (λ (v : Verdict). v.number) (sym c.before.before.size-verdict.ensures) ∙ c.if1.false)).0
+first-bad-word-requires : tie.Need-first_bad_word-i-requires
+first-bad-word-requires c κs = let a = c.args in (of_size eight a.w a.h a.levels.now (ap (λ (v : Verdict). v.number) (sym c.size_verdict-v.ensures) ∙ c.if-v-ne0.false)).0
 
-row-verdict-requires : tie.Need-row-verdict-requires
+row-verdict-requires : tie.Need-row_verdict-u-requires
 row-verdict-requires c κs = search rules
 
-returns-2 : tie.Need-returns-2
+returns-2 : tie.Need-returns-then-u-ne0
 returns-2 c =
-    let a = c.before.before.before.before.before.before.before.before.before.args in
-    (gone_on (size_rows eight a.w a.h a.levels.now) ((words_fit_row eight a.w a.h a.levels.now a.words.now) ∷ (row 9 (ltb a.places (a.w * a.h))) ∷ []) _ _ refl c.before.before.before.before.before.before.size-verdict.ensures c.before.before.before.before.if1.false (stopped ((words_fit_row eight a.w a.h a.levels.now a.words.now) ∷ []) ((row 9 (ltb a.places (a.w * a.h))) ∷ []) _ (rw c.before.before.before.first-bad-word.ensures at c.before.before.row-verdict.ensures) c.if2.true), λ z. absurd (c.if2.true z))
+    let a = c.args in
+    (gone_on (size_rows eight a.w a.h a.levels.now) ((words_fit_row eight a.w a.h a.levels.now a.words.now) ∷ (row 9 (ltb a.places (a.w * a.h))) ∷ []) _ _ refl c.size_verdict-v.ensures c.if-v-ne0.false (stopped ((words_fit_row eight a.w a.h a.levels.now a.words.now) ∷ []) ((row 9 (ltb a.places (a.w * a.h))) ∷ []) _ (rw c.first_bad_word-i.ensures at c.row_verdict-u.ensures) c.if-u-ne0.true), λ z. absurd (c.if-u-ne0.true z))
 
 area-requires : tie.Need-area-requires
-area-requires c κs = let a = c.before.before.before.before.before.before.before.before.before.args in (of_size eight a.w a.h a.levels.now (ap (λ (v : Verdict). v.number) (sym c.before.before.before.before.before.before.size-verdict.ensures) ∙ c.before.before.before.before.if1.false)).0
+area-requires c κs = let a = c.args in (of_size eight a.w a.h a.levels.now (ap (λ (v : Verdict). v.number) (sym c.size_verdict-v.ensures) ∙ c.if-v-ne0.false)).0
 
-row-verdict-requires-2 : tie.Need-row-verdict-requires-2
+row-verdict-requires-2 : tie.Need-row_verdict-requires
 row-verdict-requires-2 c κs = search rules
 
-returns-3 : tie.Need-returns-3
+returns-3 : tie.Need-returns
 returns-3 c =
-    let a = c.before.before.before.before.before.before.before.before.before.before.before.args in
-    let Z = of_size eight a.w a.h a.levels.now (ap (λ (v : Verdict). v.number) (sym c.before.before.before.before.before.before.before.before.size-verdict.ensures) ∙ c.before.before.before.before.before.before.if1.false) in
-    let v = (rw c.before.area.ensures.0 at c.row-verdict2.ensures) in (
-      gone_on (size_rows eight a.w a.h a.levels.now) ((words_fit_row eight a.w a.h a.levels.now a.words.now) ∷ (row 9 (ltb a.places (a.w * a.h))) ∷ []) _ _ refl c.before.before.before.before.before.before.before.before.size-verdict.ensures c.before.before.before.before.before.before.if1.false (gone_on ((words_fit_row eight a.w a.h a.levels.now a.words.now) ∷ []) ((row 9 (ltb a.places (a.w * a.h))) ∷ []) _ _ refl (rw c.before.before.before.before.before.first-bad-word.ensures at c.before.before.before.before.row-verdict.ensures) c.before.before.if2.false v),
+    let a = c.args in
+    let Z = of_size eight a.w a.h a.levels.now (ap (λ (v : Verdict). v.number) (sym c.size_verdict-v.ensures) ∙ c.if-v-ne0.false) in
+    let v = (rw c.area.ensures.0 at c.row_verdict.ensures) in (
+      gone_on (size_rows eight a.w a.h a.levels.now) ((words_fit_row eight a.w a.h a.levels.now a.words.now) ∷ (row 9 (ltb a.places (a.w * a.h))) ∷ []) _ _ refl c.size_verdict-v.ensures c.if-v-ne0.false (gone_on ((words_fit_row eight a.w a.h a.levels.now a.words.now) ∷ []) ((row 9 (ltb a.places (a.w * a.h))) ∷ []) _ _ refl (rw c.first_bad_word-i.ensures at c.row_verdict-u.ensures) c.if-u-ne0.false v),
       λ z. (Z.0, Z.1, ltb-false a.places (a.w * a.h) (clean (row 9 (ltb a.places (a.w * a.h))) [] (λ y. omega arith) (ap (λ (y : Verdict). y.number) (sym v) ∙ z)).0),
     )
 
 pub paint_verdict_spec : {M : Type 1} → statement M
 paint_verdict_spec =
     tie.close
-    (tie.spec
-    size-verdict-requires
-    returns
-    first-bad-word-requires
-    row-verdict-requires
-    returns-2
-    area-requires
-    row-verdict-requires-2
-    returns-3)
+    (tie.spec size-verdict-requires returns first-bad-word-requires row-verdict-requires returns-2 area-requires row-verdict-requires-2 returns-3)

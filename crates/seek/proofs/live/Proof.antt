@@ -16,7 +16,7 @@ sample-requires-2 : tie.Need-sample-requires-2
 sample-requires-2 c κs = search rules
 
 returns : tie.Need-returns
-returns c = rw (c.before.sample.ensures, c.sample2.ensures) refl
+returns c = rw (c.before.sample.ensures, c.sample-2.ensures) refl
 
 pub live_spec : {M : Type 1} → statement M
 live_spec = tie.close (tie.spec sample-requires sample-requires-2 returns)

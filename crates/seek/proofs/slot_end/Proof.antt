@@ -10,20 +10,20 @@ use Rattle.seek.proofs.Slots.{when_true, when_false}
 use Rattle.seek.proofs.slot_end.Statement.{statement}
 use Rattle.seek.proofs.slot_end.Tie as tie
 
-mul-result : tie.Need-overflow-mul-result
+mul-result : tie.Need-overflow_mul-result
 mul-result c = search rules
 
-add-result : tie.Need-overflow-add-result
+add-result : tie.Need-overflow_add-result
 add-result c = search rules
 
-returns : tie.Need-returns
-returns c = sym (when_true c.before.args.four c.if1.true (4 * c.before.args.c + 4) (c.before.args.c + 1))
+returns : tie.Need-returns-then-four
+returns c = sym (when_true c.args.four c.if-four.true (4 * c.args.c + 4) (c.args.c + 1))
 
-add-result-2 : tie.Need-overflow-add-result-2
+add-result-2 : tie.Need-overflow_add-result-2
 add-result-2 c = search rules
 
-returns-2 : tie.Need-returns-2
-returns-2 c = sym (when_false c.before.args.four c.if1.false (4 * c.before.args.c + 4) (c.before.args.c + 1))
+returns-2 : tie.Need-returns
+returns-2 c = sym (when_false c.args.four c.if-four.false (4 * c.args.c + 4) (c.args.c + 1))
 
 pub slot_end_spec : {M : Type 1} → statement M
 slot_end_spec = tie.close (tie.spec mul-result add-result returns add-result-2 returns-2)

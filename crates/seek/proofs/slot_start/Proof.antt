@@ -10,17 +10,17 @@ use Rattle.seek.proofs.Slots.{when_true, when_false}
 use Rattle.seek.proofs.slot_start.Statement.{statement}
 use Rattle.seek.proofs.slot_start.Tie as tie
 
-mul-later : tie.Need-overflow-mul-later
+mul-later : tie.Need-overflow_mul-c
 mul-later c = search rules
 
 later-requires : tie.Need-later-requires
 later-requires c κs = search rules
 
-returns : tie.Need-returns
-returns c = c.later.ensures ∙ sym (when_true c.before.before.args.four c.before.if1.true (max c.before.before.args.b (4 * c.before.before.args.c)) c.before.before.args.c)
+returns : tie.Need-returns-then-four
+returns c = c.later.ensures ∙ sym (when_true c.args.four c.if-four.true (max c.args.b (4 * c.args.c)) c.args.c)
 
-returns-2 : tie.Need-returns-2
-returns-2 c = sym (when_false c.before.args.four c.if1.false (max c.before.args.b (4 * c.before.args.c)) c.before.args.c)
+returns-2 : tie.Need-returns
+returns-2 c = sym (when_false c.args.four c.if-four.false (max c.args.b (4 * c.args.c)) c.args.c)
 
 pub slot_start_spec : {M : Type 1} → statement M
 slot_start_spec = tie.close (tie.spec mul-later later-requires returns returns-2)

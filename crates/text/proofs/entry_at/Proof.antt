@@ -5,17 +5,17 @@ use borrow.Author.Rules.{rules}
 use Rattle.text.proofs.entry_at.Statement.{statement}
 use Rattle.text.proofs.entry_at.Tie as tie
 
-mul-result : tie.Need-overflow-mul-result
+mul-result : tie.Need-offset_bounds-s-i
 mul-result c = search rules
 
-shared-slice-read-result : tie.Need-shared-slice-read-result
+shared-slice-read-result : tie.Need-bounds-s-i
 shared-slice-read-result c = search rules
 
-returns : tie.Need-returns
+returns : tie.Need-returns-then-i-s
 returns c = search rules
 
-returns-2 : tie.Need-returns-2
-returns-2 c = sym (get_or-eq_default c.before.args.s.now 0 c.if1.false)
+returns-2 : tie.Need-returns
+returns-2 c = sym (get_or-eq_default c.args.s.now 0 c.if-i-s.false)
 
 pub entry_at_spec : {M : Type 1} → statement M
 entry_at_spec = tie.close (tie.spec mul-result shared-slice-read-result returns returns-2)

@@ -8,11 +8,11 @@ use Rattle.text.proofs.kind_letter.Tie as tie
 flagged-requires : tie.Need-flagged-requires
 flagged-requires c κs = search rules
 
-returns : tie.Need-returns
-returns c = ap kind_letter (sym c.if1.true ∙ c.before.flagged.ensures)
+returns : tie.Need-returns-then-flagged
+returns c = ap kind_letter (sym c.if-flagged.true ∙ c.flagged.ensures)
 
-returns-2 : tie.Need-returns-2
-returns-2 c = ap kind_letter (sym c.if1.false ∙ c.before.flagged.ensures)
+returns-2 : tie.Need-returns
+returns-2 c = ap kind_letter (sym c.if-flagged.false ∙ c.flagged.ensures)
 
 pub kind_letter_spec : {M : Type 1} → statement M
 kind_letter_spec = tie.close (tie.spec flagged-requires returns returns-2)

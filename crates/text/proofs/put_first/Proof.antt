@@ -7,46 +7,38 @@ use borrow.Author.Rules.{rules}
 use Rattle.text.proofs.put_first.Statement.{statement}
 use Rattle.text.proofs.put_first.Tie as tie
 
-put-field-requires : tie.Need-put-field-requires
+put-field-requires : tie.Need-put_field-a-requires
 unfolding first_text
-put-field-requires c κs = omega (arith, simp length-append at c.before.before.requires)
+put-field-requires c κs = omega (arith, simp length-append at c.requires)
 
-put-field-requires-2 : tie.Need-put-field-requires-2
+put-field-requires-2 : tie.Need-put_field-b-requires
 unfolding first_text
-put-field-requires-2 c κs = omega (arith, simp length-append at c.before.before.before.before.before.before.requires, c.before.before.before.put-field.ensures.next, c.before.before.before.put-field.auto)
+put-field-requires-2 c κs = omega (arith, simp length-append at c.requires, c.put_field-a.ensures.next, c.put_field-a.auto)
 
-put-field-requires-3 : tie.Need-put-field-requires-3
+put-field-requires-3 : tie.Need-put_field-c-requires
 unfolding first_text
-put-field-requires-3 c κs = omega (arith, simp length-append at c.before.before.before.before.before.before.before.before.before.before.requires)
+put-field-requires-3 c κs = omega (arith, simp length-append at c.requires)
 
-put-field-requires-4 : tie.Need-put-field-requires-4
+put-field-requires-4 : tie.Need-put_field-d-requires
 unfolding first_text
-put-field-requires-4 c κs = omega (arith, simp length-append at c.before.before.before.before.before.before.before.before.before.before.before.before.before.before.requires)
+put-field-requires-4 c κs = omega (arith, simp length-append at c.requires)
 
-put-field-requires-5 : tie.Need-put-field-requires-5
+put-field-requires-5 : tie.Need-put_field-e-requires
 unfolding first_text
-put-field-requires-5 c κs = omega (arith, simp length-append at c.before.before.before.before.before.before.before.before.before.before.before.before.before.before.before.before.before.before.requires)
+put-field-requires-5 c κs = omega (arith, simp length-append at c.requires)
 
-put-field-requires-6 : tie.Need-put-field-requires-6
+put-field-requires-6 : tie.Need-put_field-requires
 unfolding first_text
-put-field-requires-6 c κs = omega (arith, simp length-append at c.before.before.before.before.before.before.before.before.before.before.before.before.before.before.before.before.before.before.before.before.before.before.requires)
+put-field-requires-6 c κs = omega (arith, simp length-append at c.requires)
 
-same_length : tie.Need-same-length
+same_length : tie.Need-shape_of-out
 same_length c = search rules
 
 returns : tie.Need-returns
 unfolding first_text
-returns c = then c.before.before.before.before.before.before.before.before.before.before.before.before.before.before.before.before.before.before.before.before.before.before.put-field.ensures (then c.before.before.before.before.before.before.before.before.before.before.before.before.before.before.before.before.before.before.put-field2.ensures (then c.before.before.before.before.before.before.before.before.before.before.before.before.before.before.put-field3.ensures (then c.before.before.before.before.before.before.before.before.before.before.put-field4.ensures (then c.before.before.before.before.before.before.put-field5.ensures c.before.before.put-field6.ensures))))
+returns c = then c.put_field-a.ensures (then c.put_field-b.ensures (then c.put_field-c.ensures (then c.put_field-d.ensures (then c.put_field-e.ensures c.put_field.ensures))))
 
 pub put_first_spec : {M : Type 1} → statement M
 put_first_spec =
     tie.close
-    (tie.spec
-    put-field-requires
-    put-field-requires-2
-    put-field-requires-3
-    put-field-requires-4
-    put-field-requires-5
-    put-field-requires-6
-    same_length
-    returns)
+    (tie.spec put-field-requires put-field-requires-2 put-field-requires-3 put-field-requires-4 put-field-requires-5 put-field-requires-6 same_length returns)

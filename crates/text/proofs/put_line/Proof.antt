@@ -10,49 +10,40 @@ use borrow.Author.Rules.{rules}
 use Rattle.text.proofs.put_line.Statement.{statement}
 use Rattle.text.proofs.put_line.Tie as tie
 
-put-field-requires : tie.Need-put-field-requires
+put-field-requires : tie.Need-put_field-a-requires
 unfolding line_text
-put-field-requires c κs = omega (arith, simp length-append at c.before.before.requires)
+put-field-requires c κs = omega (arith, simp length-append at c.requires)
 
-put-field-requires-2 : tie.Need-put-field-requires-2
+put-field-requires-2 : tie.Need-put_field-b-requires
 unfolding line_text
-put-field-requires-2 c κs = omega (arith, simp length-append at c.before.before.before.before.before.before.requires)
+put-field-requires-2 c κs = omega (arith, simp length-append at c.requires)
 
-cast-put-field : tie.Need-overflow-cast-put-field
+cast-put-field : tie.Need-overflow_cast-entry
 cast-put-field c = search rules
 
-put-field-requires-3 : tie.Need-put-field-requires-3
+put-field-requires-3 : tie.Need-put_field-c-requires
 unfolding line_text
-put-field-requires-3 c κs = omega (arith, simp length-append at c.before.before.before.before.before.before.before.before.before.before.requires)
+put-field-requires-3 c κs = omega (arith, simp length-append at c.requires)
 
-kind-letter-requires : tie.Need-kind-letter-requires
+kind-letter-requires : tie.Need-kind_letter-requires
 kind-letter-requires c κs = search rules
 
-put-letter-requires : tie.Need-put-letter-requires
+put-letter-requires : tie.Need-put_letter-d-requires
 unfolding line_text
-put-letter-requires c κs = omega (arith, simp length-append at c.before.before.before.before.before.before.before.before.before.before.before.before.before.before.before.requires)
+put-letter-requires c κs = omega (arith, simp length-append at c.requires)
 
-put-field-requires-4 : tie.Need-put-field-requires-4
+put-field-requires-4 : tie.Need-put_field-requires
 unfolding line_text
-put-field-requires-4 c κs = omega (arith, simp length-append at c.before.before.before.before.before.before.before.before.before.before.before.before.before.before.before.before.before.before.before.requires)
+put-field-requires-4 c κs = omega (arith, simp length-append at c.requires)
 
-same_length : tie.Need-same-length
+same_length : tie.Need-shape_of-out
 same_length c = search rules
 
 returns : tie.Need-returns
 unfolding line_text
-returns c = then c.before.before.before.before.before.before.before.before.before.before.before.before.before.before.before.before.before.before.before.put-field.ensures (then c.before.before.before.before.before.before.before.before.before.before.before.before.before.before.before.put-field2.ensures (then c.before.before.before.before.before.before.before.before.before.before.before.put-field3.ensures (then (put_as (ap (λ (g : ℕ). g ∷ 32 ∷ []) c.before.before.before.before.before.before.before.kind-letter.ensures) c.before.before.before.before.before.before.put-letter.ensures) c.before.before.put-field4.ensures)))
+returns c = then c.put_field-a.ensures (then c.put_field-b.ensures (then c.put_field-c.ensures (then (put_as (ap (λ (g : ℕ). g ∷ 32 ∷ []) c.kind_letter.ensures) c.put_letter-d.ensures) c.put_field.ensures)))
 
 pub put_line_spec : {M : Type 1} → statement M
 put_line_spec =
     tie.close
-    (tie.spec
-    put-field-requires
-    put-field-requires-2
-    cast-put-field
-    put-field-requires-3
-    kind-letter-requires
-    put-letter-requires
-    put-field-requires-4
-    same_length
-    returns)
+    (tie.spec put-field-requires put-field-requires-2 cast-put-field put-field-requires-3 kind-letter-requires put-letter-requires put-field-requires-4 same_length returns)

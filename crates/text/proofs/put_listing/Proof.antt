@@ -6,20 +6,20 @@ use borrow.Author.Rules.{rules}
 use Rattle.text.proofs.put_listing.Statement.{statement}
 use Rattle.text.proofs.put_listing.Tie as tie
 
-byte-at-requires : tie.Need-byte-at-requires
+byte-at-requires : tie.Need-byte_at-requires
 byte-at-requires c κs = search rules
 
-put-first-requires : tie.Need-put-first-requires
-put-first-requires c κs = rw c.byte_at.ensures (omega (arith, simp length-append at c.before.before.before.before.before.before.requires.2))
+put-first-requires : tie.Need-put_first-at-requires
+put-first-requires c κs = rw c.byte_at.ensures (omega (arith, simp length-append at c.requires.2))
 
-put-words-requires : tie.Need-put-words-requires
-put-words-requires c κs = (c.before.before.before.before.before.before.before.before.before.before.requires.0, c.before.before.before.before.before.before.before.before.before.before.requires.1, omega (arith, simp length-append at c.before.before.before.before.before.before.before.before.before.before.requires.2, rw c.before.before.before.before.byte_at.ensures at c.before.before.before.put_first.ensures.next, c.before.before.before.put_first.auto))
+put-words-requires : tie.Need-put_words-requires
+put-words-requires c κs = (c.requires.0, c.requires.1, omega (arith, simp length-append at c.requires.2, rw c.byte_at.ensures at c.put_first-at.ensures.next, c.put_first-at.auto))
 
-same_length : tie.Need-same-length
+same_length : tie.Need-shape_of-out
 same_length c = search rules
 
 returns : tie.Need-returns
-returns c = then (rw c.before.before.before.before.before.before.before.byte_at.ensures at c.before.before.before.before.before.before.put_first.ensures) c.before.before.put-words.ensures
+returns c = then (rw c.byte_at.ensures at c.put_first-at.ensures) c.put_words.ensures
 
 pub put_listing_spec : {M : Type 1} → statement M
 put_listing_spec =

@@ -10,24 +10,21 @@ use borrow.Author.Rules.{rules}
 use Rattle.text.proofs.put_refused.Statement.{statement}
 use Rattle.text.proofs.put_refused.Tie as tie
 
-slice-aggregate-put-bytes : tie.Need-slice-aggregate-put-bytes
-slice-aggregate-put-bytes c = search rules
-
-put-bytes-requires : tie.Need-put-bytes-requires
+put-bytes-requires : tie.Need-put_bytes-at-requires
 put-bytes-requires c κs = search rules
 
-put-field-requires : tie.Need-put-field-requires
+put-field-requires : tie.Need-put_field-requires
 unfolding field
-put-field-requires c κs = omega (arith, c.before.before.before.before.before.before.before.requires, c.before.before.before.put-bytes.ensures.next, c.before.before.before.put-bytes.auto, length-append (decimal c.before.before.before.before.before.before.before.args.number) (10 ∷ []), decimal_length 9 c.before.before.before.before.before.before.before.args.number (omega arith))
+put-field-requires c κs = omega (arith, c.requires, c.put_bytes-at.ensures.next, c.put_bytes-at.auto, length-append (decimal c.args.number) (10 ∷ []), decimal_length 9 c.args.number (omega arith))
 
-same_length : tie.Need-same-length
+same_length : tie.Need-shape_of-out
 same_length c = search rules
 
 returns : tie.Need-returns
 unfolding refused_text
-returns c = then c.before.before.before.before.before.before.put-bytes.ensures c.before.before.put-field.ensures
+returns c = then c.put_bytes-at.ensures c.put_field.ensures
 
 pub put_refused_spec : {M : Type 1} → statement M
 put_refused_spec =
     tie.close
-    (tie.spec slice-aggregate-put-bytes put-bytes-requires put-field-requires same_length returns)
+    (tie.spec put-bytes-requires put-field-requires same_length returns)

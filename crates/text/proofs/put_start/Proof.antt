@@ -10,40 +10,31 @@ use Rattle.text.proofs.put_start.Tie as tie
 flagged-requires : tie.Need-flagged-requires
 flagged-requires c κs = search rules
 
-level-of-requires : tie.Need-level-of-requires
+level-of-requires : tie.Need-level_of-requires
 level-of-requires c κs = search rules
 
-entry-at-requires : tie.Need-entry-at-requires
+entry-at-requires : tie.Need-entry_at-requires
 entry-at-requires c κs = search rules
 
-run-of-requires : tie.Need-run-of-requires
+run-of-requires : tie.Need-run_of-requires
 run-of-requires c κs = search rules
 
-add-put-line : tie.Need-overflow-add-put-line
+add-put-line : tie.Need-overflow_add-run_of
 add-put-line c = search rules
 
-put-line-requires : tie.Need-put-line-requires
-put-line-requires c κs = rw (start_line c.before.before.before.before.before.before.before.before.before.args.n c.before.before.before.before.before.before.before.before.before.args.entries.now c.before.before.before.before.before.before.before.before.before.args.u c.before.before.before.before.before.before.before.before.before.args.rest.now (sym c.before.before.before.before.before.flagged.ensures ∙ c.before.before.before.before.if1.true) c.before.before.level-of.result c.before.entry_at.result c.run_of.result c.before.before.level-of.ensures c.before.entry_at.ensures c.run_of.ensures.0) at c.before.before.before.before.before.before.before.before.before.requires
+put-line-requires : tie.Need-put_line-requires
+put-line-requires c κs = rw (start_line c.args.n c.args.entries.now c.args.u c.args.rest.now (sym c.flagged.ensures ∙ c.if-flagged.true) c.level_of.result c.entry_at.result c.run_of.result c.level_of.ensures c.entry_at.ensures c.run_of.ensures.0) at c.requires
 
-same_length : tie.Need-same-length
+same_length : tie.Need-shape_of-out-then-flagged
 same_length c = search rules
 
-returns : tie.Need-returns
-returns c = put_as (sym (start_line c.before.before.before.before.before.before.before.before.before.before.before.before.args.n c.before.before.before.before.before.before.before.before.before.before.before.before.args.entries.now c.before.before.before.before.before.before.before.before.before.before.before.before.args.u c.before.before.before.before.before.before.before.before.before.before.before.before.args.rest.now (sym c.before.before.before.before.before.before.before.before.flagged.ensures ∙ c.before.before.before.before.before.before.before.if1.true) c.before.before.before.before.before.level-of.result c.before.before.before.before.entry_at.result c.before.before.before.run_of.result c.before.before.before.before.before.level-of.ensures c.before.before.before.before.entry_at.ensures c.before.before.before.run_of.ensures.0)) c.before.before.put-line.ensures
+returns : tie.Need-returns-then-flagged
+returns c = put_as (sym (start_line c.args.n c.args.entries.now c.args.u c.args.rest.now (sym c.flagged.ensures ∙ c.if-flagged.true) c.level_of.result c.entry_at.result c.run_of.result c.level_of.ensures c.entry_at.ensures c.run_of.ensures.0)) c.put_line.ensures
 
-returns-2 : tie.Need-returns-2
-returns-2 c = put_as (sym (start_none c.before.before.before.before.before.args.n c.before.before.before.before.before.args.entries.now c.before.before.before.before.before.args.u c.before.before.before.before.before.args.rest.now (sym c.before.flagged.ensures ∙ c.if1.false))) (put_none _ _ (omega (arith, rw (start_none c.before.before.before.before.before.args.n c.before.before.before.before.before.args.entries.now c.before.before.before.before.before.args.u c.before.before.before.before.before.args.rest.now (sym c.before.flagged.ensures ∙ c.if1.false)) at c.before.before.before.before.before.requires)))
+returns-2 : tie.Need-returns
+returns-2 c = put_as (sym (start_none c.args.n c.args.entries.now c.args.u c.args.rest.now (sym c.flagged.ensures ∙ c.if-flagged.false))) (put_none _ _ (omega (arith, rw (start_none c.args.n c.args.entries.now c.args.u c.args.rest.now (sym c.flagged.ensures ∙ c.if-flagged.false)) at c.requires)))
 
 pub put_start_spec : {M : Type 1} → statement M
 put_start_spec =
     tie.close
-    (tie.spec
-    flagged-requires
-    level-of-requires
-    entry-at-requires
-    run-of-requires
-    add-put-line
-    put-line-requires
-    same_length
-    returns
-    returns-2)
+    (tie.spec flagged-requires level-of-requires entry-at-requires run-of-requires add-put-line put-line-requires same_length returns returns-2)

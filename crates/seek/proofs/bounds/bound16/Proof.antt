@@ -13,58 +13,47 @@ use Rattle.seek.proofs.Slots.{bound_none, bound_more}
 use Rattle.seek.proofs.bounds.bound16.Statement.{statement}
 use Rattle.seek.proofs.bounds.bound16.Tie as tie
 
-abbrev invariant-loop : tie.invariant-loop
+abbrev invariant-loop : tie.invariant-loop-i
 invariant-loop px top a n m₀ i₀ m i = (i ≤ n) × (m ≡ bound_of (pairs px) top a i)
 
-abbrev decreases-loop : tie.decreases-loop
+abbrev decreases-loop : tie.decreases-loop-i
 decreases-loop px top a n m₀ i₀ m i = n - i
 
-pair-at-requires : tie.Need-pair-at-requires invariant-loop decreases-loop
-pair-at-requires c κs = omega (arith, c.before.requires.0)
+pair-at-requires : tie.Need-pair_at-m-requires invariant-loop decreases-loop
+pair-at-requires c κs = omega (arith, c.requires.0)
 
-loop-holds : tie.Need-loop-init invariant-loop decreases-loop
-loop-holds c = (omega arith, c.pair-at.ensures ∙ bound_none (pairs c.before.before.args.px.now) c.before.before.args.a c.before.before.args.top)
+loop-holds : tie.Need-loop-i-init invariant-loop decreases-loop
+loop-holds c = (omega arith, c.pair_at-m.ensures ∙ bound_none (pairs c.args.px.now) c.args.a c.args.top)
 
-add-i : tie.Need-overflow-add-i invariant-loop decreases-loop
+add-i : tie.Need-overflow_add-i invariant-loop decreases-loop
 add-i c = search rules
 
-add-pair-at : tie.Need-overflow-add-pair-at invariant-loop decreases-loop
-add-pair-at c = omega (arith, c.loop-test.true, c.before.before.before.before.requires.0, c.before.before.before.before.requires.1)
+add-pair-at : tie.Need-overflow_add-a invariant-loop decreases-loop
+add-pair-at c = omega (arith, c.loop-i-test.true, c.requires.0, c.requires.1)
 
-pair-at-requires-2 : tie.Need-pair-at-requires-2 invariant-loop decreases-loop
-pair-at-requires-2 c κs = omega (arith, c.loop-test.true, c.before.before.before.before.requires.0)
+pair-at-requires-2 : tie.Need-pair_at-requires invariant-loop decreases-loop
+pair-at-requires-2 c κs = omega (arith, c.loop-i-test.true, c.requires.0)
 
-either16-requires : tie.Need-either16-requires invariant-loop decreases-loop
+either16-requires : tie.Need-either16-m-requires invariant-loop decreases-loop
 either16-requires c κs = search rules
 
-loop-less : tie.Need-loop-smaller invariant-loop decreases-loop
-loop-less c = omega (arith, c.before.before.loop-test.true)
+loop-less : tie.Need-loop-i-smaller invariant-loop decreases-loop
+loop-less c = omega (arith, c.loop-i-test.true)
 
-loop-again : tie.Need-loop-preserved invariant-loop decreases-loop
+loop-again : tie.Need-loop-i-preserved invariant-loop decreases-loop
 loop-again c =
-    let l = c.before.before.before.loop in
-    let a = c.before.before.before.before.before.before.args in
-    (omega (arith, c.before.before.loop-test.true), c.either16.ensures ∙ ap (further a.top l.m) c.before.pair-at2.ensures ∙ ap (λ (z : ℕ). further a.top z (get_or (pairs a.px.now) (a.a + (l.i + 1)) 0)) l.invariant.1 ∙ sym (bound_more (pairs a.px.now) a.a a.top l.i))
+    let l = c.loop-i in
+    let a = c.args in
+    (omega (arith, c.loop-i-test.true), c.either16-m.ensures ∙ ap (further a.top l.m) c.pair_at.ensures ∙ ap (λ (z : ℕ). further a.top z (get_or (pairs a.px.now) (a.a + (l.i + 1)) 0)) l.invariant.1 ∙ sym (bound_more (pairs a.px.now) a.a a.top l.i))
 
 returns : tie.Need-returns invariant-loop decreases-loop
 returns c =
-    let l = c.before.loop in
-    let a = c.before.before.before.before.args in
-    let e : l.i ≡ a.n = omega (arith, c.loop-test.false, l.invariant.0) in
+    let l = c.loop-i in
+    let a = c.args in
+    let e : l.i ≡ a.n = omega (arith, c.loop-i-test.false, l.invariant.0) in
     l.invariant.1 ∙ ap (bound_of (pairs a.px.now) a.top a.a) e
 
 pub bound16_spec : {M : Type 1} → statement M
 bound16_spec =
     tie.close
-    (tie.spec
-    invariant-loop
-    decreases-loop
-    pair-at-requires
-    loop-holds
-    add-i
-    add-pair-at
-    pair-at-requires-2
-    either16-requires
-    loop-less
-    loop-again
-    returns)
+    (tie.spec invariant-loop decreases-loop pair-at-requires loop-holds add-i add-pair-at pair-at-requires-2 either16-requires loop-less loop-again returns)

@@ -11,58 +11,47 @@ use Rattle.seek.proofs.Slots.{bound_none, bound_more}
 use Rattle.seek.proofs.bounds.bound8.Statement.{statement}
 use Rattle.seek.proofs.bounds.bound8.Tie as tie
 
-abbrev invariant-loop : tie.invariant-loop
+abbrev invariant-loop : tie.invariant-loop-i
 invariant-loop px top a n m₀ i₀ m i = (i ≤ n) × (m ≡ bound_of px top a i)
 
-abbrev decreases-loop : tie.decreases-loop
+abbrev decreases-loop : tie.decreases-loop-i
 decreases-loop px top a n m₀ i₀ m i = n - i
 
-shared-slice-read-m : tie.Need-shared-slice-read-m invariant-loop decreases-loop
-shared-slice-read-m c = omega (arith, c.before.before.requires.0)
+shared-slice-read-m : tie.Need-bounds-px-a invariant-loop decreases-loop
+shared-slice-read-m c = omega (arith, c.requires.0)
 
-loop-holds : tie.Need-loop-init invariant-loop decreases-loop
-loop-holds c = (omega arith, bound_none c.before.before.args.px.now c.before.before.args.a c.before.before.args.top)
+loop-holds : tie.Need-loop-i-init invariant-loop decreases-loop
+loop-holds c = (omega arith, bound_none c.args.px.now c.args.a c.args.top)
 
-add-i : tie.Need-overflow-add-i invariant-loop decreases-loop
+add-i : tie.Need-overflow_add-i invariant-loop decreases-loop
 add-i c = search rules
 
-add-either : tie.Need-overflow-add-either invariant-loop decreases-loop
-add-either c = omega (arith, c.loop-test.true, c.before.before.before.before.requires.0, c.before.before.before.before.requires.1)
+add-either : tie.Need-overflow_add-a invariant-loop decreases-loop
+add-either c = omega (arith, c.loop-i-test.true, c.requires.0, c.requires.1)
 
-shared-slice-read-either : tie.Need-shared-slice-read-either invariant-loop decreases-loop
-shared-slice-read-either c = omega (arith, c.before.loop-test.true, c.before.before.before.before.before.requires.0)
+shared-slice-read-either : tie.Need-bounds-px-a-in-loop-i invariant-loop decreases-loop
+shared-slice-read-either c = omega (arith, c.loop-i-test.true, c.requires.0)
 
-either-requires : tie.Need-either-requires invariant-loop decreases-loop
+either-requires : tie.Need-either-m-requires invariant-loop decreases-loop
 either-requires c κs = search rules
 
-loop-less : tie.Need-loop-smaller invariant-loop decreases-loop
-loop-less c = omega (arith, c.before.before.loop-test.true)
+loop-less : tie.Need-loop-i-smaller invariant-loop decreases-loop
+loop-less c = omega (arith, c.loop-i-test.true)
 
-loop-again : tie.Need-loop-preserved invariant-loop decreases-loop
+loop-again : tie.Need-loop-i-preserved invariant-loop decreases-loop
 loop-again c =
-    let l = c.before.before.before.loop in
-    let a = c.before.before.before.before.before.before.args in
-    (omega (arith, c.before.before.loop-test.true), c.either.ensures ∙ ap (λ (z : ℕ). further a.top z (get_or a.px.now (a.a + (l.i + 1)) 0)) l.invariant.1 ∙ sym (bound_more a.px.now a.a a.top l.i))
+    let l = c.loop-i in
+    let a = c.args in
+    (omega (arith, c.loop-i-test.true), c.either-m.ensures ∙ ap (λ (z : ℕ). further a.top z (get_or a.px.now (a.a + (l.i + 1)) 0)) l.invariant.1 ∙ sym (bound_more a.px.now a.a a.top l.i))
 
 returns : tie.Need-returns invariant-loop decreases-loop
 returns c =
-    let l = c.before.loop in
-    let a = c.before.before.before.before.args in
-    let e : l.i ≡ a.n = omega (arith, c.loop-test.false, l.invariant.0) in
+    let l = c.loop-i in
+    let a = c.args in
+    let e : l.i ≡ a.n = omega (arith, c.loop-i-test.false, l.invariant.0) in
     l.invariant.1 ∙ ap (bound_of a.px.now a.top a.a) e
 
 pub bound8_spec : {M : Type 1} → statement M
 bound8_spec =
     tie.close
-    (tie.spec
-    invariant-loop
-    decreases-loop
-    shared-slice-read-m
-    loop-holds
-    add-i
-    add-either
-    shared-slice-read-either
-    either-requires
-    loop-less
-    loop-again
-    returns)
+    (tie.spec invariant-loop decreases-loop shared-slice-read-m loop-holds add-i add-either shared-slice-read-either either-requires loop-less loop-again returns)

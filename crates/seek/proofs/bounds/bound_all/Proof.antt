@@ -12,7 +12,7 @@ use Rattle.seek.proofs.Slots.{reach_up, reach_few, bounds_none}
 use Rattle.seek.proofs.bounds.bound_all.Statement.{statement}
 use Rattle.seek.proofs.bounds.bound_all.Tie as tie
 
-abbrev invariant-loop : tie.invariant-loop
+abbrev invariant-loop : tie.invariant-loop-a
 invariant-loop wide px lo₀ hi₀ four slots a₀ lo hi a =
     (a ≤ slots)
     × (length (samples_of wide lo) ≡ length (samples_of wide lo₀))
@@ -24,72 +24,61 @@ invariant-loop wide px lo₀ hi₀ four slots a₀ lo hi a =
     × (length lo ≡ length lo₀)
     × (length hi ≡ length hi₀)
 
-abbrev decreases-loop : tie.decreases-loop
+abbrev decreases-loop : tie.decreases-loop-a
 decreases-loop wide px lo₀ hi₀ four slots a₀ lo hi a = slots - a
 
-loop-holds : tie.Need-loop-init invariant-loop decreases-loop
+loop-holds : tie.Need-loop-a-init invariant-loop decreases-loop
 loop-holds c = (omega arith, refl, refl, bounds_none _ _ _ _, bounds_none _ _ _ _, refl, refl, refl, refl)
 
-piece-end-requires : tie.Need-piece-end-requires invariant-loop decreases-loop
-piece-end-requires c κs = (c.loop-test.true, reach_few c.before.before.before.before.before.args.four c.before.before.before.before.before.args.slots _ (omega (arith, c.before.before.before.before.before.requires.0)) c.before.before.before.before.before.requires.1)
+piece-end-requires : tie.Need-piece_end-e-requires invariant-loop decreases-loop
+piece-end-requires c κs = (c.loop-a-test.true, reach_few c.args.four c.args.slots _ (omega (arith, c.requires.0)) c.requires.1)
 
-bound-each-requires : tie.Need-bound-each-requires invariant-loop decreases-loop
+bound-each-requires : tie.Need-bound_each-requires invariant-loop decreases-loop
 bound-each-requires c κs =
-    let p = c.before.before.before.before.before.before.before.requires in
-    let l = c.before.before.before.loop in
-    let r = c.before.piece-end.ensures in
-    (omega (arith, r, l.invariant.0), omega (arith, p.0, reach_up c.before.before.before.before.before.before.before.args.four c.before.piece-end.result c.before.before.before.before.before.before.before.args.slots (omega (arith, r))), p.1, omega (arith, r, p.2, l.invariant.1), l.invariant.3)
+    let p = c.requires in
+    let l = c.loop-a in
+    let r = c.piece_end-e.ensures in
+    (omega (arith, r, l.invariant.0), omega (arith, p.0, reach_up c.args.four c.piece_end-e.result c.args.slots (omega (arith, r))), p.1, omega (arith, r, p.2, l.invariant.1), l.invariant.3)
 
-bound-each-requires-2 : tie.Need-bound-each-requires-2 invariant-loop decreases-loop
+bound-each-requires-2 : tie.Need-bound_each-requires-in-loop-a invariant-loop decreases-loop
 bound-each-requires-2 c κs =
-    let p = c.before.before.before.before.before.before.before.before.before.before.before.requires in
-    let l = c.before.before.before.before.before.before.before.loop in
-    let r = c.before.before.before.before.before.piece-end.ensures in
-    (omega (arith, r, l.invariant.0), omega (arith, p.0, reach_up c.before.before.before.before.before.before.before.before.before.before.before.args.four c.before.before.before.before.before.piece-end.result c.before.before.before.before.before.before.before.before.before.before.before.args.slots (omega (arith, r))), p.1, omega (arith, r, p.3, l.invariant.2), l.invariant.4)
+    let p = c.requires in
+    let l = c.loop-a in
+    let r = c.piece_end-e.ensures in
+    (omega (arith, r, l.invariant.0), omega (arith, p.0, reach_up c.args.four c.piece_end-e.result c.args.slots (omega (arith, r))), p.1, omega (arith, r, p.3, l.invariant.2), l.invariant.4)
 
-loop-less : tie.Need-loop-smaller invariant-loop decreases-loop
-loop-less c = omega (arith, c.before.before.before.before.before.before.before.before.piece-end.ensures, c.before.before.before.before.before.before.before.before.before.loop-test.true)
+loop-less : tie.Need-loop-a-smaller invariant-loop decreases-loop
+loop-less c = omega (arith, c.piece_end-e.ensures, c.loop-a-test.true)
 
-loop-again : tie.Need-loop-preserved invariant-loop decreases-loop
+loop-again : tie.Need-loop-a-preserved invariant-loop decreases-loop
 loop-again c =
-    let l = c.before.before.before.before.before.before.before.before.before.before.loop in
-    let r : c.before.before.before.before.before.before.before.before.piece-end.result ≤ c.before.before.before.before.before.before.before.before.before.before.before.before.before.before.args.slots = omega (arith, c.before.before.before.before.before.before.before.before.piece-end.ensures) in (
+    let l = c.loop-a in
+    let r : c.piece_end-e.result ≤ c.args.slots = omega (arith, c.piece_end-e.ensures) in (
       r,
-      count_same c.before.before.before.before.before.before.before.before.before.before.before.before.before.before.args.wide _ _ c.before.before.before.before.before.before.bound-each.auto.1.1.1.0 ∙ l.invariant.1,
-      count_same c.before.before.before.before.before.before.before.before.before.before.before.before.before.before.args.wide _ _ c.before.before.bound-each2.auto.1.1.1.0 ∙ l.invariant.2,
-      c.before.before.before.before.before.before.bound-each.ensures.0,
-      c.before.before.bound-each2.ensures.0,
-      drop_later _ _ _ _ r c.before.before.before.before.before.before.bound-each.ensures.1 ∙ l.invariant.5,
-      drop_later _ _ _ _ r c.before.before.bound-each2.ensures.1 ∙ l.invariant.6,
-      c.before.before.before.before.before.before.bound-each.auto.1.1.1.0 ∙ l.invariant.7,
-      c.before.before.bound-each2.auto.1.1.1.0 ∙ l.invariant.8,
+      count_same c.args.wide _ _ c.bound_each.auto.out ∙ l.invariant.1,
+      count_same c.args.wide _ _ c.bound_each-in-loop-a.auto.out ∙ l.invariant.2,
+      c.bound_each.ensures.0,
+      c.bound_each-in-loop-a.ensures.0,
+      drop_later _ _ _ _ r c.bound_each.ensures.1 ∙ l.invariant.5,
+      drop_later _ _ _ _ r c.bound_each-in-loop-a.ensures.1 ∙ l.invariant.6,
+      c.bound_each.auto.out ∙ l.invariant.7,
+      c.bound_each-in-loop-a.auto.out ∙ l.invariant.8,
     )
 
-same_length : tie.Need-same-length invariant-loop decreases-loop
-same_length c = c.before.loop.invariant.7
+same_length : tie.Need-shape_of-lo invariant-loop decreases-loop
+same_length c = c.loop-a.invariant.7
 
-same-length-2 : tie.Need-same-length-2 invariant-loop decreases-loop
-same-length-2 c = c.before.loop.invariant.8
+same-length-2 : tie.Need-shape_of-hi invariant-loop decreases-loop
+same-length-2 c = c.loop-a.invariant.8
 
 returns : tie.Need-returns invariant-loop decreases-loop
 returns c =
-    let l = c.before.loop in
-    let a = c.before.before.before.before.before.args in
-    let e : l.a ≡ a.slots = omega (arith, c.loop-test.false, l.invariant.0) in
+    let l = c.loop-a in
+    let a = c.args in
+    let e : l.a ≡ a.slots = omega (arith, c.loop-a-test.false, l.invariant.0) in
     (subst (λ (z : ℕ). Bounds (samples_of a.wide a.px.now) (samples_of a.wide l.lo) false a.four z) e l.invariant.3, subst (λ (z : ℕ). Bounds (samples_of a.wide a.px.now) (samples_of a.wide l.hi) true a.four z) e l.invariant.4, l.invariant.5, l.invariant.6)
 
 pub bound_all_spec : {M : Type 1} → statement M
 bound_all_spec =
     tie.close
-    (tie.spec
-    invariant-loop
-    decreases-loop
-    loop-holds
-    piece-end-requires
-    bound-each-requires
-    bound-each-requires-2
-    loop-less
-    loop-again
-    same_length
-    same-length-2
-    returns)
+    (tie.spec invariant-loop decreases-loop loop-holds piece-end-requires bound-each-requires bound-each-requires-2 loop-less loop-again same_length same-length-2 returns)

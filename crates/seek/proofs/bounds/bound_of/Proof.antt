@@ -12,23 +12,23 @@ use Rattle.seek.proofs.Slots.{reach_four, reach_own, of_four, of_own}
 use Rattle.seek.proofs.bounds.bound_of.Statement.{statement}
 use Rattle.seek.proofs.bounds.bound_of.Tie as tie
 
-mul-bound : tie.Need-overflow-mul-bound
-mul-bound c = omega (arith, c.before.before.requires.0, c.before.before.requires.1, reach_four c.before.before.args.four c.if1.true (c.before.before.args.c + 1))
+mul-bound : tie.Need-overflow_mul-c
+mul-bound c = omega (arith, c.requires.0, c.requires.1, reach_four c.args.four c.if-four.true (c.args.c + 1))
 
 bound-requires : tie.Need-bound-requires
-bound-requires c κs = (omega (arith, c.before.before.requires.0, reach_four c.before.before.args.four c.if1.true (c.before.before.args.c + 1)), c.before.before.requires.1)
+bound-requires c κs = (omega (arith, c.requires.0, reach_four c.args.four c.if-four.true (c.args.c + 1)), c.requires.1)
 
-returns : tie.Need-returns
-returns c = let a = c.before.before.before.args in (c.bound.ensures.0 ∙ of_four (bound_of (samples_of a.wide a.px.now) a.top) a.four c.before.if1.true (256 * a.c) (64 * a.c) 256 64, c.bound.ensures.1)
+returns : tie.Need-returns-then-four
+returns c = let a = c.args in (c.bound.ensures.0 ∙ of_four (bound_of (samples_of a.wide a.px.now) a.top) a.four c.if-four.true (256 * a.c) (64 * a.c) 256 64, c.bound.ensures.1)
 
-mul-bound-2 : tie.Need-overflow-mul-bound-2
-mul-bound-2 c = omega (arith, c.before.before.requires.0, c.before.before.requires.1, reach_own c.before.before.args.four c.if1.false (c.before.before.args.c + 1))
+mul-bound-2 : tie.Need-overflow_mul-c-2
+mul-bound-2 c = omega (arith, c.requires.0, c.requires.1, reach_own c.args.four c.if-four.false (c.args.c + 1))
 
 bound-requires-2 : tie.Need-bound-requires-2
-bound-requires-2 c κs = (omega (arith, c.before.before.requires.0, reach_own c.before.before.args.four c.if1.false (c.before.before.args.c + 1)), c.before.before.requires.1)
+bound-requires-2 c κs = (omega (arith, c.requires.0, reach_own c.args.four c.if-four.false (c.args.c + 1)), c.requires.1)
 
-returns-2 : tie.Need-returns-2
-returns-2 c = let a = c.before.before.before.args in (c.bound2.ensures.0 ∙ of_own (bound_of (samples_of a.wide a.px.now) a.top) a.four c.before.if1.false (256 * a.c) (64 * a.c) 256 64, c.bound2.ensures.1)
+returns-2 : tie.Need-returns
+returns-2 c = let a = c.args in (c.bound-2.ensures.0 ∙ of_own (bound_of (samples_of a.wide a.px.now) a.top) a.four c.if-four.false (256 * a.c) (64 * a.c) 256 64, c.bound-2.ensures.1)
 
 pub bound_of_spec : {M : Type 1} → statement M
 bound_of_spec =

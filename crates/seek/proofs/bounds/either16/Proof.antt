@@ -13,14 +13,14 @@ use Rattle.seek.proofs.bounds.either16.Tie as tie
 greater16-requires : tie.Need-greater16-requires
 greater16-requires c κs = search rules
 
-returns : tie.Need-returns
-returns c = c.greater16.ensures ∙ sym (when_true c.before.before.args.top c.before.if1.true (max c.before.before.args.a c.before.before.args.b) (min c.before.before.args.a c.before.before.args.b))
+returns : tie.Need-returns-then-top
+returns c = c.greater16.ensures ∙ sym (when_true c.args.top c.if-top.true (max c.args.a c.args.b) (min c.args.a c.args.b))
 
 lesser16-requires : tie.Need-lesser16-requires
 lesser16-requires c κs = search rules
 
-returns-2 : tie.Need-returns-2
-returns-2 c = c.lesser16.ensures ∙ sym (when_false c.before.before.args.top c.before.if1.false (max c.before.before.args.a c.before.before.args.b) (min c.before.before.args.a c.before.before.args.b))
+returns-2 : tie.Need-returns
+returns-2 c = c.lesser16.ensures ∙ sym (when_false c.args.top c.if-top.false (max c.args.a c.args.b) (min c.args.a c.args.b))
 
 pub either16_spec : {M : Type 1} → statement M
 either16_spec = tie.close (tie.spec greater16-requires returns lesser16-requires returns-2)

@@ -10,17 +10,17 @@ use Rattle.seek.proofs.Slots.{reach_four, reach_own}
 use Rattle.seek.proofs.bounds.reach_of.Statement.{statement}
 use Rattle.seek.proofs.bounds.reach_of.Tie as tie
 
-mul-result : tie.Need-overflow-mul-result
+mul-result : tie.Need-overflow_mul-result
 mul-result c = search rules
 
-returns : tie.Need-returns
-returns c = sym (reach_four c.before.args.four c.if1.true c.before.args.n)
+returns : tie.Need-returns-then-four
+returns c = sym (reach_four c.args.four c.if-four.true c.args.n)
 
-mul-result-2 : tie.Need-overflow-mul-result-2
+mul-result-2 : tie.Need-overflow_mul-result-2
 mul-result-2 c = search rules
 
-returns-2 : tie.Need-returns-2
-returns-2 c = sym (reach_own c.before.args.four c.if1.false c.before.args.n)
+returns-2 : tie.Need-returns
+returns-2 c = sym (reach_own c.args.four c.if-four.false c.args.n)
 
 pub reach_of_spec : {M : Type 1} → statement M
 reach_of_spec = tie.close (tie.spec mul-result returns mul-result-2 returns-2)

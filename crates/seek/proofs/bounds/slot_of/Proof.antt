@@ -10,11 +10,11 @@ use Rattle.seek.proofs.Slots.{when_true, when_false}
 use Rattle.seek.proofs.bounds.slot_of.Statement.{statement}
 use Rattle.seek.proofs.bounds.slot_of.Tie as tie
 
-returns : tie.Need-returns
-returns c = sym (when_true c.before.args.four c.if1.true (c.before.args.b / 4) c.before.args.b)
+returns : tie.Need-returns-then-four
+returns c = sym (when_true c.args.four c.if-four.true (c.args.b / 4) c.args.b)
 
-returns-2 : tie.Need-returns-2
-returns-2 c = sym (when_false c.before.args.four c.if1.false (c.before.args.b / 4) c.before.args.b)
+returns-2 : tie.Need-returns-else-four
+returns-2 c = sym (when_false c.args.four c.if-four.false (c.args.b / 4) c.args.b)
 
 pub slot_of_spec : {M : Type 1} → statement M
 slot_of_spec = tie.close (tie.spec returns returns-2)

@@ -11,22 +11,22 @@ use Rattle.seek.proofs.within.least_in.Statement.{statement}
 use Rattle.seek.proofs.within.least_in.Tie as tie
 
 least16-requires : tie.Need-least16-requires
-least16-requires c κs = let e = c.if1.true in (rw e at c.before.before.before.requires.0, c.before.before.before.requires.1, rw e at c.before.before.before.requires.2)
+least16-requires c κs = let e = c.if-wide.true in (rw e at c.requires.0, c.requires.1, rw e at c.requires.2)
 
-cast-result : tie.Need-overflow-cast-result
+cast-result : tie.Need-overflow_cast-result
 cast-result c = omega (arith, c.least16.ensures.most)
 
-returns : tie.Need-returns
-returns c = rw c.before.if1.true c.least16.ensures
+returns : tie.Need-returns-then-wide
+returns c = rw c.if-wide.true c.least16.ensures
 
-cast-least8 : tie.Need-overflow-cast-least8
-cast-least8 c = omega (arith, rw c.if1.false at c.before.before.before.requires.3)
+cast-least8 : tie.Need-overflow_cast-k
+cast-least8 c = omega (arith, rw c.if-wide.false at c.requires.3)
 
 least8-requires : tie.Need-least8-requires
-least8-requires c κs = let e = c.if1.false in (rw e at c.before.before.before.requires.0, c.before.before.before.requires.1, rw e at c.before.before.before.requires.2)
+least8-requires c κs = let e = c.if-wide.false in (rw e at c.requires.0, c.requires.1, rw e at c.requires.2)
 
-returns-2 : tie.Need-returns-2
-returns-2 c = rw c.before.if1.false c.least8.ensures
+returns-2 : tie.Need-returns
+returns-2 c = rw c.if-wide.false c.least8.ensures
 
 pub least_in_spec : {M : Type 1} → statement M
 least_in_spec =

@@ -1,5 +1,6 @@
 // One line, followed from its lead until it comes back: samples of either width, word places of either kind.
 #![tactic(auto)]
+
 ghost use Rattle.std.specs.Prelude.{◌≡◌, Bool, true, false, List, ◌++◌, ℕ, ◌+◌, ◌*◌, ◌≤◌, ◌<◌, eqb, ltb, length, get_or, set, take, drop};
 ghost use Rattle.matte.specs.Layout.{layout_of};
 ghost use Rattle.matte.specs.Picture.{picture, most_places};

@@ -18,52 +18,45 @@ use borrow.Author.Rules.{rules}
 use Rattle.follow.proofs.go_west.Statement.{statement}
 use Rattle.follow.proofs.go_west.Tie as tie
 
-put-tall-requires : tie.Need-put-tall-requires
+put-tall-requires : tie.Need-put_tall-requires
 put-tall-requires c κs =
-    let z = c.before.before.before.before.before in
+    let z = c in
     let e = here (samples_of z.args.wide z.args.px.now) z.args.w z.args.s West z.requires.1 z.requires.0 in
     (z.requires.2, omega (arith, e.inside, e.back, e.few), omega (arith, z.requires.3.low))
 
-sub-through : tie.Need-overflow-sub-through
+sub-through : tie.Need-overflow_sub-i
 sub-through c =
-    let z = c.before.before.before.before.before.before.before.before.before.before in
+    let z = c in
     let e = here (samples_of z.args.wide z.args.px.now) z.args.w z.args.s West z.requires.1 z.requires.0 in
     omega (arith, e.back)
 
-add-through : tie.Need-overflow-add-through
+add-through : tie.Need-overflow_add-i
 add-through c =
-    let z = c.before.before.before.before.before.before.before.before.before.before in
+    let z = c in
     let e = here (samples_of z.args.wide z.args.px.now) z.args.w z.args.s West z.requires.1 z.requires.0 in
     omega (arith, e.inside, e.back, e.few, e.wide)
 
 through-requires : tie.Need-through-requires
 through-requires c κs =
-    let z = c.before.before.before.before.before.before.before.before.before.before in
+    let z = c in
     let e = here (samples_of z.args.wide z.args.px.now) z.args.w z.args.s West z.requires.1 z.requires.0 in
     (e.wide, e.few, omega (arith, e.inside, e.back), omega (arith, e.back), omega (arith, e.back))
 
-same_length : tie.Need-same-length
+same_length : tie.Need-shape_of-words
 same_length c = search rules
 
-same-length-2 : tie.Need-same-length-2
+same-length-2 : tie.Need-shape_of-bytes
 same-length-2 c = search rules
 
 returns : tie.Need-returns
 returns c =
-    let z = c.before.before.before.before.before.before.before.before.before.before.before in
+    let z = c in
     let a = z.args in (
       λ h. c.through.ensures h ∙ sym (after_by (picture a.w h (samples_of a.wide a.px.now)) a.k a.s West z.requires.1),
-      c.before.before.before.before.before.put-tall.ensures ∙ ap (λ (v : ℕ). set (places_of a.inb a.words.now a.bytes.now) a.n v) (plain_word (layout_of a.wide) (2 * a.s.place + 1) a.k a.base z.requires.3.is) ∙ ap (λ (g : Heading). set (places_of a.inb a.words.now a.bytes.now) a.n (word (layout_of a.wide) (code_on g a.s.place) a.k false)) (sym z.requires.1),
+      c.put_tall.ensures ∙ ap (λ (v : ℕ). set (places_of a.inb a.words.now a.bytes.now) a.n v) (plain_word (layout_of a.wide) (2 * a.s.place + 1) a.k a.base z.requires.3.is) ∙ ap (λ (g : Heading). set (places_of a.inb a.words.now a.bytes.now) a.n (word (layout_of a.wide) (code_on g a.s.place) a.k false)) (sym z.requires.1),
     )
 
 pub go_west_spec : {M : Type 1} → statement M
 go_west_spec =
     tie.close
-    (tie.spec
-    put-tall-requires
-    sub-through
-    add-through
-    through-requires
-    same_length
-    same-length-2
-    returns)
+    (tie.spec put-tall-requires sub-through add-through through-requires same_length same-length-2 returns)

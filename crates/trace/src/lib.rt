@@ -1,5 +1,6 @@
 // Listing: all lines of all levels, in order, as words.
 #![tactic(auto)]
+
 mod scan;
 
 ghost use Rattle.std.specs.Prelude.{◌≡◌, ◌++◌, ◌≤◌, ◌<◌, length, drop, replicate};

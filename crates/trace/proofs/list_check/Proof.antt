@@ -14,52 +14,45 @@ use borrow.Author.Rules.{rules}
 use Rattle.trace.proofs.list_check.Statement.{statement}
 use Rattle.trace.proofs.list_check.Tie as tie
 
-ground-verdict-requires : tie.Need-ground-verdict-requires
+ground-verdict-requires : tie.Need-ground_verdict-g-requires
 ground-verdict-requires c κs = search rules
 
-returns : tie.Need-returns
+returns : tie.Need-returns-then-g-ne0
 returns c =
-    let a = c.before.before.before.before.before.before.before.args in
-    (stopped (ground_rows eight (picture a.w a.h a.px.now) a.levels.now) ((work_row (picture a.w a.h a.px.now) a.work.now) ∷ (words_row a.words.now (length (listed eight (picture a.w a.h a.px.now) a.levels.now))) ∷ []) _ c.before.before.ground-verdict.ensures c.if1.true, λ z. absurd (c.if1.true z))
+    let a = c.args in
+    (stopped (ground_rows eight (picture a.w a.h a.px.now) a.levels.now) ((work_row (picture a.w a.h a.px.now) a.work.now) ∷ (words_row a.words.now (length (listed eight (picture a.w a.h a.px.now) a.levels.now))) ∷ []) _ c.ground_verdict-g.ensures c.if-g-ne0.true, λ z. absurd (c.if-g-ne0.true z))
 
-row-verdict-requires : tie.Need-row-verdict-requires
+row-verdict-requires : tie.Need-row_verdict-v-requires
 row-verdict-requires c κs = search rules
 
-returns-2 : tie.Need-returns-2
+returns-2 : tie.Need-returns-then-v-ne0
 returns-2 c =
-    let a = c.before.before.before.before.before.before.before.before.before.before.args in
-    let g = grounded eight (picture a.w a.h a.px.now) a.levels.now (ap (λ (v : Verdict). v.number) (sym c.before.before.before.before.before.ground-verdict.ensures) ∙ c.before.before.before.if1.false) in (
-      gone_on (ground_rows eight (picture a.w a.h a.px.now) a.levels.now) ((work_row (picture a.w a.h a.px.now) a.work.now) ∷ (words_row a.words.now (length (listed eight (picture a.w a.h a.px.now) a.levels.now))) ∷ []) _ _ refl c.before.before.before.before.before.ground-verdict.ensures c.before.before.before.if1.false
-          (stopped ((work_row (picture a.w a.h a.px.now) a.work.now) ∷ []) ((words_row a.words.now (length (listed eight (picture a.w a.h a.px.now) a.levels.now))) ∷ []) _ (rw g.0.whole at c.before.before.row-verdict.ensures) c.if2.true),
-      λ z. absurd (c.if2.true z),
+    let a = c.args in
+    let g = grounded eight (picture a.w a.h a.px.now) a.levels.now (ap (λ (v : Verdict). v.number) (sym c.ground_verdict-g.ensures) ∙ c.if-g-ne0.false) in (
+      gone_on (ground_rows eight (picture a.w a.h a.px.now) a.levels.now) ((work_row (picture a.w a.h a.px.now) a.work.now) ∷ (words_row a.words.now (length (listed eight (picture a.w a.h a.px.now) a.levels.now))) ∷ []) _ _ refl c.ground_verdict-g.ensures c.if-g-ne0.false
+          (stopped ((work_row (picture a.w a.h a.px.now) a.work.now) ∷ []) ((words_row a.words.now (length (listed eight (picture a.w a.h a.px.now) a.levels.now))) ∷ []) _ (rw g.0.whole at c.row_verdict-v.ensures) c.if-v-ne0.true),
+      λ z. absurd (c.if-v-ne0.true z),
     )
 
-count-words-requires : tie.Need-count-words-requires
+count-words-requires : tie.Need-count_words-needed-requires
 count-words-requires c κs =
-    let a = c.before.before.before.before.before.before.before.before.before.before.args in
-    let g = grounded eight (picture a.w a.h a.px.now) a.levels.now (ap (λ (v : Verdict). v.number) (sym c.before.before.before.before.before.ground-verdict.ensures) ∙ c.before.before.before.if1.false) in
+    let a = c.args in
+    let g = grounded eight (picture a.w a.h a.px.now) a.levels.now (ap (λ (v : Verdict). v.number) (sym c.ground_verdict-g.ensures) ∙ c.if-g-ne0.false) in
     (g.0, g.1)
 
-row-verdict-requires-2 : tie.Need-row-verdict-requires-2
+row-verdict-requires-2 : tie.Need-row_verdict-requires
 row-verdict-requires-2 c κs = search rules
 
-returns-3 : tie.Need-returns-3
+returns-3 : tie.Need-returns
 returns-3 c =
-    let a = c.before.before.before.before.before.before.before.before.before.before.before.before.args in
-    let g = grounded eight (picture a.w a.h a.px.now) a.levels.now (ap (λ (v : Verdict). v.number) (sym c.before.before.before.before.before.before.before.ground-verdict.ensures) ∙ c.before.before.before.before.before.if1.false) in (
-      gone_on (ground_rows eight (picture a.w a.h a.px.now) a.levels.now) ((work_row (picture a.w a.h a.px.now) a.work.now) ∷ (words_row a.words.now (length (listed eight (picture a.w a.h a.px.now) a.levels.now))) ∷ []) _ _ refl c.before.before.before.before.before.before.before.ground-verdict.ensures c.before.before.before.before.before.if1.false
-          (gone_on ((work_row (picture a.w a.h a.px.now) a.work.now) ∷ []) ((words_row a.words.now (length (listed eight (picture a.w a.h a.px.now) a.levels.now))) ∷ []) _ _ refl (rw g.0.whole at c.before.before.before.before.row-verdict.ensures) c.before.before.if2.false (rw c.before.count-words.ensures at c.row-verdict2.ensures)),
-      λ z. c.before.count-words.ensures,
+    let a = c.args in
+    let g = grounded eight (picture a.w a.h a.px.now) a.levels.now (ap (λ (v : Verdict). v.number) (sym c.ground_verdict-g.ensures) ∙ c.if-g-ne0.false) in (
+      gone_on (ground_rows eight (picture a.w a.h a.px.now) a.levels.now) ((work_row (picture a.w a.h a.px.now) a.work.now) ∷ (words_row a.words.now (length (listed eight (picture a.w a.h a.px.now) a.levels.now))) ∷ []) _ _ refl c.ground_verdict-g.ensures c.if-g-ne0.false
+          (gone_on ((work_row (picture a.w a.h a.px.now) a.work.now) ∷ []) ((words_row a.words.now (length (listed eight (picture a.w a.h a.px.now) a.levels.now))) ∷ []) _ _ refl (rw g.0.whole at c.row_verdict-v.ensures) c.if-v-ne0.false (rw c.count_words-needed.ensures at c.row_verdict.ensures)),
+      λ z. c.count_words-needed.ensures,
     )
 
 pub list_check_spec : {M : Type 1} → statement M
 list_check_spec =
     tie.close
-    (tie.spec
-    ground-verdict-requires
-    returns
-    row-verdict-requires
-    returns-2
-    count-words-requires
-    row-verdict-requires-2
-    returns-3)
+    (tie.spec ground-verdict-requires returns row-verdict-requires returns-2 count-words-requires row-verdict-requires-2 returns-3)

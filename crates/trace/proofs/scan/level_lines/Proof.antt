@@ -24,7 +24,7 @@ use Rattle.trace.proofs.Level.{Scanning, at_begin, to_lead, lead_here, line_room
 use Rattle.trace.proofs.scan.level_lines.Statement.{statement}
 use Rattle.trace.proofs.scan.level_lines.Tie as tie
 
-abbrev invariant-loop : tie.invariant-loop
+abbrev invariant-loop : tie.invariant-loop-p
 invariant-loop wide px w h k m lo hi four slots work₀ inb words₀ bytes₀ end s₀ p₀ work words bytes s p =
     (length work ≡ length work₀)
     × (length words ≡ length words₀)
@@ -32,7 +32,7 @@ invariant-loop wide px w h k m lo hi four slots work₀ inb words₀ bytes₀ en
     × ((Q : LevelReady (layout_of wide) (picture w h (samples_of wide px)) k m work₀ (places_of inb words₀ bytes₀) s₀) → Scanning (picture w h (samples_of wide px)) Q.ground k (layout_of wide) m s₀.words s₀.lines work₀ (places_of inb words₀ bytes₀) Q.wide Q.room p s work (places_of inb words bytes))
     × (length bytes ≡ length bytes₀)
 
-abbrev decreases-loop : tie.decreases-loop
+abbrev decreases-loop : tie.decreases-loop-p
 decreases-loop wide px w h k m lo hi four slots work₀ inb words₀ bytes₀ end s₀ p₀ work words bytes s p = length (samples_of wide px) - w - p
 
 -- as the call begins: the picture, the word places, and what holds at a place of the scan; Q is what the call asks
@@ -53,144 +53,128 @@ Stands z Q p s work words =
     Scanning (P z) Q.ground z.args.k (layout_of z.args.wide) z.args.m z.args.st.words z.args.st.lines z.args.work.now (U z) Q.wide Q.room p s work words
 
 -- at a lead: its edgel is crossed, and there is room for its line
-cut : (z : Begun) (p : ℕ) (s : Written) (work words : List ℕ) → Stands z z.pre.0 p s work words → p < upper (P z) → cut_at (P z) z.args.k (2 * p) ≡ true
+cut : (z : Begun) (p : ℕ) (s : Written) (work words : List ℕ) → Stands z z.requires.0 p s work words → p < upper (P z) → cut_at (P z) z.args.k (2 * p) ≡ true
 cut z p s work words Z t =
-    let Q = z.pre.0 in
+    let Q = z.requires.0 in
     lead_here (P z) Q.ground z.args.k (layout_of z.args.wide) z.args.m z.args.st.words z.args.st.lines z.args.work.now (U z) Q.wide Q.room p s work words Z t
 
-fits : (z : Begun) (p : ℕ) (s : Written) (work words : List ℕ) → Stands z z.pre.0 p s work words → p < upper (P z) → s.words + length (line (P z) z.args.k (2 * p)) ≤ length (U z)
+fits : (z : Begun) (p : ℕ) (s : Written) (work words : List ℕ) → Stands z z.requires.0 p s work words → p < upper (P z) → s.words + length (line (P z) z.args.k (2 * p)) ≤ length (U z)
 fits z p s work words Z t =
-    let Q = z.pre.0 in
+    let Q = z.requires.0 in
     line_room (P z) Q.ground z.args.k (layout_of z.args.wide) z.args.m z.args.st.words z.args.st.lines z.args.work.now (U z) Q.wide Q.room p s work words Z t
 
 -- in the loop: the word places, and where the scan stands
 abbrev Turn : Type 0
-Turn = tie.In-loop invariant-loop decreases-loop
+Turn = tie.In-loop-p invariant-loop decreases-loop
 
 abbrev start : Turn → Begun
-start l = l.before.before.before.before.before.before.before.before.before.before.before
+start l = l.before.before.before.before.before.before.before.before.before.before
 
 abbrev U' : Turn → List ℕ
-U' l = places_of (start l).args.inb l.before.loop.words l.before.loop.bytes
+U' l = places_of (start l).args.inb l.loop-p.words l.loop-p.bytes
 
-abbrev stands : (l : Turn) → Stands (start l) (start l).pre.0 l.before.loop.p l.before.loop.s l.before.loop.work (U' l)
-stands l = l.before.loop.inv.3 (start l).pre.0
+abbrev stands : (l : Turn) → Stands (start l) (start l).requires.0 l.loop-p.p l.loop-p.s l.loop-p.work (U' l)
+stands l = l.loop-p.invariant.3 (start l).requires.0
 
-above : (l : Turn) → l.before.loop.p < upper (P (start l))
-above l = omega (arith, l.loop-test.taken, l.before.before.before.before.count_of.ensures, (start l).pre.0.ground.whole)
+above : (l : Turn) → l.loop-p.p < upper (P (start l))
+above l = omega (arith, l.loop-p-test.true, l.count_of.ensures, (start l).requires.0.ground.whole)
 
 places : (l : Turn) → length (U' l) ≡ length (U (start l))
-places l = places_same (start l).args.inb _ _ _ _ l.before.loop.inv.1 l.before.loop.inv.4
+places l = places_same (start l).args.inb _ _ _ _ l.loop-p.invariant.1 l.loop-p.invariant.4
 
-count-of-requires : tie.Need-count-of-requires invariant-loop decreases-loop
+count-of-requires : tie.Need-count_of-requires invariant-loop decreases-loop
 count-of-requires c κs = tt
 
-sub-end : tie.Need-overflow-sub-end invariant-loop decreases-loop
-sub-end c = omega (arith, row_fits c.before.before.before.before.before.before.before.requires.0.ground, c.count_of.ensures)
+sub-end : tie.Need-overflow_sub-end invariant-loop decreases-loop
+sub-end c = omega (arith, row_fits c.requires.0.ground, c.count_of.ensures)
 
-search-requires : tie.Need-search-requires invariant-loop decreases-loop
+search-requires : tie.Need-search-p-requires invariant-loop decreases-loop
 search-requires c κs =
-    let z = c.before.before.before.before.before.before.before.before in
+    let z = c in
     let Q = z.requires.0 in
-    (omega arith, omega (arith, c.before.count_of.ensures, row_fits Q.ground, Q.ground.sides.w_least), omega (arith, c.before.count_of.ensures, Q.ground.whole, Q.wide), Q.level, omega (arith, c.before.count_of.ensures, z.requires.1), z.requires.2, λ j g h. absurd (omega arith))
+    (omega arith, omega (arith, c.count_of.ensures, row_fits Q.ground, Q.ground.sides.w_least), omega (arith, c.count_of.ensures, Q.ground.whole, Q.wide), Q.level, omega (arith, c.count_of.ensures, z.requires.1), z.requires.2, λ j g h. absurd (omega arith))
 
-loop-holds : tie.Need-loop-init invariant-loop decreases-loop
+loop-holds : tie.Need-loop-p-init invariant-loop decreases-loop
 loop-holds c =
-    let z = c.before.before.before.before.before.before.before.before.before in
+    let z = c.before.before.before.before.before.before.before.before in
     let a = z.args in (
       refl,
       refl,
       z.requires.0.fewer,
       λ Q.
-          to_lead (P z) Q.ground a.k (layout_of a.wide) a.m a.st.words a.st.lines a.work.now (U z) Q.wide Q.room 0 c.search.result a.st a.work.now (U z)
+          to_lead (P z) Q.ground a.k (layout_of a.wide) a.m a.st.words a.st.lines a.work.now (U z) Q.wide Q.room 0 c.search-p.result a.st a.work.now (U z)
           (at_begin (P z) Q.ground a.k (layout_of a.wide) a.m a.st.words a.st.lines a.work.now (U z) Q.wide Q.room Q.low a.st refl refl)
-          (c.search.ensures ∙ ap (λ (n : ℕ). first_from (fresh (P z).px a.work.now a.k a.m) 0 (n - a.w - 0)) (c.before.before.count_of.ensures ∙ Q.ground.whole)),
+          (c.search-p.ensures ∙ ap (λ (n : ℕ). first_from (fresh (P z).px a.work.now a.k a.m) 0 (n - a.w - 0)) (c.count_of.ensures ∙ Q.ground.whole)),
       refl,
     )
 
-trace-line-requires : tie.Need-trace-line-requires invariant-loop decreases-loop
+trace-line-requires : tie.Need-trace_line-n-requires invariant-loop decreases-loop
 trace-line-requires c κs =
-    let l = c.before.before.before.before in
-    let z = c.before.before.before.before.before.before.before.before.before.before.before.before.before.before in
+    let l = c in
+    let z = c.before.before.before.before.before.before.before.before.before.before.before.before.before in
     let Q = z.requires.0 in
-    (Q.ground, Q.level, omega (arith, Q.ground.whole, Q.wide, l.loop.invariant.0), cut z _ _ _ _ (stands c.before.before.before) (above c.before.before.before), omega (arith, fits z _ _ _ _ (stands c.before.before.before) (above c.before.before.before), places c.before.before.before), omega (arith, Q.codes, Q.ground.whole))
+    (Q.ground, Q.level, omega (arith, Q.ground.whole, Q.wide, l.loop-p.invariant.0), cut z _ _ _ _ (stands c.before.before.before) (above c.before.before.before), omega (arith, fits z _ _ _ _ (stands c.before.before.before) (above c.before.before.before), places c.before.before.before), omega (arith, Q.codes, Q.ground.whole))
 
-add-search : tie.Need-overflow-add-search invariant-loop decreases-loop
+add-search : tie.Need-overflow_add-s invariant-loop decreases-loop
 add-search c =
+    let z = c.before.before.before.before.before.before.before.before.before.before.before.before.before.before.before.before.before.before.before.before in
+    let a = z.args in
+    omega (arith, c.loop-p.invariant.2, fits z _ _ _ _ (stands c.before.before.before.before.before.before.before.before.before.before) (above c.before.before.before.before.before.before.before.before.before.before), places_most a.inb a.words.now a.bytes.now 9223372036854775807 (omega (arith, z.well_formed.1.1.1.1.1.1.1.1.1.1.1.1.0.1)) (omega (arith, z.well_formed.1.1.1.1.1.1.1.1.1.1.1.1.1.0.1)))
+
+add-search-2 : tie.Need-overflow_add-p invariant-loop decreases-loop
+add-search-2 c = omega (arith, c.loop-p-test.true, c.count_of.ensures, area_most c.requires.0.ground, c.requires.0.ground.whole)
+
+search-requires-2 : tie.Need-search-p-requires-in-loop-p invariant-loop decreases-loop
+search-requires-2 c κs =
+    let z = c.before.before.before.before.before.before.before.before.before.before.before.before.before.before.before.before.before.before.before.before in
+    let a = z.args in
+    let Q = z.requires.0 in
+    let l = c.loop-p in
+    (omega (arith, c.loop-p-test.true), omega (arith, c.count_of.ensures, row_fits Q.ground, Q.ground.sides.w_least), omega (arith, c.trace_line-n.auto.work, l.invariant.0, c.count_of.ensures, Q.ground.whole, Q.wide), Q.level, omega (arith, c.count_of.ensures, z.requires.1), z.requires.2, line_passed (P z) Q.ground a.k (layout_of a.wide) a.m a.st.words a.st.lines a.work.now (U z) Q.wide Q.room l.p l.s l.work (U' c.before.before.before.before.before.before.before.before.before.before) (stands c.before.before.before.before.before.before.before.before.before.before) (above c.before.before.before.before.before.before.before.before.before.before) _ c.trace_line-n.ensures.1)
+
+loop-less : tie.Need-loop-p-smaller invariant-loop decreases-loop
+loop-less c =
     let z = c.before.before.before.before.before.before.before.before.before.before.before.before.before.before.before.before.before.before.before.before.before in
     let a = z.args in
-    omega (arith, c.before.before.before.before.before.before.before.before.before.before.before.loop.invariant.2, fits z _ _ _ _ (stands c.before.before.before.before.before.before.before.before.before.before) (above c.before.before.before.before.before.before.before.before.before.before), places_most a.inb a.words.now a.bytes.now 9223372036854775807 (omega (arith, z.well-formed.1.1.1.1.1.1.1.1.1.1.1.1.0.1)) (omega (arith, z.well-formed.1.1.1.1.1.1.1.1.1.1.1.1.1.0.1)))
+    let l = c.loop-p in
+    omega (arith, c.loop-p-test.true, c.count_of.ensures, c.search-p-in-loop-p.ensures, from_ge (fresh (P z).px c.trace_line-n.new.work a.k a.m) (l.p + 1) (c.count_of.result - a.w - (l.p + 1)))
 
-add-search-2 : tie.Need-overflow-add-search-2 invariant-loop decreases-loop
-add-search-2 c = omega (arith, c.before.before.before.before.before.before.before.before.before.before.before.loop-test.true, c.before.before.before.before.before.before.before.before.before.before.before.before.before.before.before.count_of.ensures, area_most c.before.before.before.before.before.before.before.before.before.before.before.before.before.before.before.before.before.before.before.before.before.before.requires.0.ground, c.before.before.before.before.before.before.before.before.before.before.before.before.before.before.before.before.before.before.before.before.before.before.requires.0.ground.whole)
-
-search-requires-2 : tie.Need-search-requires-2 invariant-loop decreases-loop
-search-requires-2 c κs =
-    let z = c.before.before.before.before.before.before.before.before.before.before.before.before.before.before.before.before.before.before.before.before.before.before in
-    let a = z.args in
-    let Q = z.requires.0 in
-    let l = c.before.before.before.before.before.before.before.before.before.before.before.before.loop in
-    (omega (arith, c.before.before.before.before.before.before.before.before.before.before.before.loop-test.true), omega (arith, c.before.before.before.before.before.before.before.before.before.before.before.before.before.before.before.count_of.ensures, row_fits Q.ground, Q.ground.sides.w_least), omega (arith, c.before.before.before.before.before.before.before.trace-line.auto.1.1.1.1.1.1.0, l.invariant.0, c.before.before.before.before.before.before.before.before.before.before.before.before.before.before.before.count_of.ensures, Q.ground.whole, Q.wide), Q.level, omega (arith, c.before.before.before.before.before.before.before.before.before.before.before.before.before.before.before.count_of.ensures, z.requires.1), z.requires.2, line_passed (P z) Q.ground a.k (layout_of a.wide) a.m a.st.words a.st.lines a.work.now (U z) Q.wide Q.room l.p l.s l.work (U' c.before.before.before.before.before.before.before.before.before.before.before) (stands c.before.before.before.before.before.before.before.before.before.before.before) (above c.before.before.before.before.before.before.before.before.before.before.before) _ c.before.before.before.before.before.before.before.trace-line.ensures.1)
-
-loop-less : tie.Need-loop-smaller invariant-loop decreases-loop
-loop-less c =
-    let z = c.before.before.before.before.before.before.before.before.before.before.before.before.before.before.before.before.before.before.before.before.before.before.before in
-    let a = z.args in
-    let l = c.before.before.before.before.before.before.before.before.before.before.before.before.before.loop in
-    omega (arith, c.before.before.before.before.before.before.before.before.before.before.before.before.loop-test.true, c.before.before.before.before.before.before.before.before.before.before.before.before.before.before.before.before.count_of.ensures, c.search2.ensures, from_ge (fresh (P z).px c.before.before.before.before.before.before.before.before.trace-line.new.1.1.1.1.1.1.0 a.k a.m) (l.p + 1) (c.before.before.before.before.before.before.before.before.before.before.before.before.before.before.before.before.count_of.result - a.w - (l.p + 1)))
-
-loop-again : tie.Need-loop-preserved invariant-loop decreases-loop
+loop-again : tie.Need-loop-p-preserved invariant-loop decreases-loop
 loop-again c =
-    let z = c.before.before.before.before.before.before.before.before.before.before.before.before.before.before.before.before.before.before.before.before.before.before.before in
+    let z = c.before.before.before.before.before.before.before.before.before.before.before.before.before.before.before.before.before.before.before.before.before in
     let a = z.args in
-    let l = c.before.before.before.before.before.before.before.before.before.before.before.before.before.loop in
-    let r = c.before.before.before.before.before.before.before.before.trace-line in
-    let n = line_cons (P z) z.requires.0.ground a.k (2 * l.p) (cut z _ _ _ _ (stands c.before.before.before.before.before.before.before.before.before.before.before.before) (above c.before.before.before.before.before.before.before.before.before.before.before.before)) in (
-      r.auto.1.1.1.1.1.1.0 ∙ l.invariant.0,
-      r.auto.1.1.1.1.1.1.1.1.0 ∙ l.invariant.1,
+    let l = c.loop-p in
+    let r = c.trace_line-n in
+    let n = line_cons (P z) z.requires.0.ground a.k (2 * l.p) (cut z _ _ _ _ (stands c.before.before.before.before.before.before.before.before.before.before.before) (above c.before.before.before.before.before.before.before.before.before.before.before)) in (
+      r.auto.work ∙ l.invariant.0,
+      r.auto.words ∙ l.invariant.1,
       omega (arith, l.invariant.2, r.ensures.0, ap length n.1),
       λ Q.
-          to_lead (P z) Q.ground a.k (layout_of a.wide) a.m a.st.words a.st.lines a.work.now (U z) Q.wide Q.room (l.p + 1) c.search2.result _ _ _
-          (at_line (P z) Q.ground a.k (layout_of a.wide) a.m a.st.words a.st.lines a.work.now (U z) Q.wide Q.room l.p l.s l.work (U' c.before.before.before.before.before.before.before.before.before.before.before.before) (l.invariant.3 Q) (above c.before.before.before.before.before.before.before.before.before.before.before.before) _ _ _ r.ensures.0 refl r.ensures.1 r.ensures.2)
-          (c.search2.ensures ∙ ap (λ (n : ℕ). first_from (fresh (P z).px r.new.1.1.1.1.1.1.0 a.k a.m) (l.p + 1) (n - a.w - (l.p + 1))) (c.before.before.before.before.before.before.before.before.before.before.before.before.before.before.before.before.count_of.ensures ∙ Q.ground.whole)),
-      r.auto.1.1.1.1.1.1.1.1.1.0 ∙ l.invariant.4,
+          to_lead (P z) Q.ground a.k (layout_of a.wide) a.m a.st.words a.st.lines a.work.now (U z) Q.wide Q.room (l.p + 1) c.search-p-in-loop-p.result _ _ _
+          (at_line (P z) Q.ground a.k (layout_of a.wide) a.m a.st.words a.st.lines a.work.now (U z) Q.wide Q.room l.p l.s l.work (U' c.before.before.before.before.before.before.before.before.before.before.before) (l.invariant.3 Q) (above c.before.before.before.before.before.before.before.before.before.before.before) _ _ _ r.ensures.0 refl r.ensures.1 r.ensures.2)
+          (c.search-p-in-loop-p.ensures ∙ ap (λ (n : ℕ). first_from (fresh (P z).px r.new.work a.k a.m) (l.p + 1) (n - a.w - (l.p + 1))) (c.count_of.ensures ∙ Q.ground.whole)),
+      r.auto.bytes ∙ l.invariant.4,
     )
 
-same_length : tie.Need-same-length invariant-loop decreases-loop
-same_length c = c.before.loop.invariant.0
+same_length : tie.Need-shape_of-work invariant-loop decreases-loop
+same_length c = c.loop-p.invariant.0
 
-same-length-2 : tie.Need-same-length-2 invariant-loop decreases-loop
-same-length-2 c = c.before.loop.invariant.1
+same-length-2 : tie.Need-shape_of-words invariant-loop decreases-loop
+same-length-2 c = c.loop-p.invariant.1
 
-same-length-3 : tie.Need-same-length-3 invariant-loop decreases-loop
-same-length-3 c = c.before.loop.invariant.4
+same-length-3 : tie.Need-shape_of-bytes invariant-loop decreases-loop
+same-length-3 c = c.loop-p.invariant.4
 
 returns : tie.Need-returns invariant-loop decreases-loop
 returns c =
-    let z = c.before.before.before.before.before.before.before.before.before.before.before in
+    let z = c.before.before.before.before.before.before.before.before.before.before in
     let a = z.args in
     let Q = z.requires.0 in
-    let l = c.before.loop in
-    let D = at_end (P z) Q.ground a.k (layout_of a.wide) a.m a.st.words a.st.lines a.work.now (U z) Q.wide Q.room l.p l.s l.work (places_of a.inb l.words l.bytes) (l.invariant.3 Q) (omega (arith, c.loop-test.false, c.before.before.before.before.count_of.ensures, Q.ground.whole)) in
+    let l = c.loop-p in
+    let D = at_end (P z) Q.ground a.k (layout_of a.wide) a.m a.st.words a.st.lines a.work.now (U z) Q.wide Q.room l.p l.s l.work (places_of a.inb l.words l.bytes) (l.invariant.3 Q) (omega (arith, c.loop-p-test.false, c.count_of.ensures, Q.ground.whole)) in
     record { words_are = D.words_are; lines_are = D.lines_are; fewer = l.invariant.2; all = D.all; worn = D.worn }
 
 pub level_lines_spec : {M : Type 1} → statement M
 level_lines_spec =
     tie.close
-    (tie.spec
-    invariant-loop
-    decreases-loop
-    count-of-requires
-    sub-end
-    search-requires
-    loop-holds
-    trace-line-requires
-    add-search
-    add-search-2
-    search-requires-2
-    loop-less
-    loop-again
-    same_length
-    same-length-2
-    same-length-3
-    returns)
+    (tie.spec invariant-loop decreases-loop count-of-requires sub-end search-requires loop-holds trace-line-requires add-search add-search-2 search-requires-2 loop-less loop-again same_length same-length-2 same-length-3 returns)

@@ -12,28 +12,28 @@ use Rattle.trace.proofs.scan.mark_for.Tie as tie
 clear-requires : tie.Need-clear-requires
 clear-requires c κs = search rules
 
-same_length : tie.Need-same-length
+same_length : tie.Need-shape_of-work-then-m-eq0
 same_length c = search rules
 
-returns : tie.Need-returns
+returns : tie.Need-returns-then-m-eq0
 returns c =
-    let a = c.before.before.before.before.before.before.args in
-    let e = c.before.before.clear.ensures in
+    let a = c.args in
+    let e = c.clear.ensures in
     record {
-      is = omega (arith, c.before.before.before.before.if1.true);
-      long = ap length e ∙ cleared_length a.n a.work.now c.before.before.before.before.before.before.requires.0;
+      is = omega (arith, c.if-m-eq0.true);
+      long = ap length e ∙ cleared_length a.n a.work.now c.requires.0;
       low = λ i h. omega (arith, ap (λ (l : List ℕ). get_or l i 0) e, cleared_at a.n a.work.now i h);
       rest = ap (drop a.n) e ∙ cleared_rest a.n a.work.now;
     }
 
-cast-result : tie.Need-overflow-cast-result
+cast-result : tie.Need-overflow_cast-result
 cast-result c = search rules
 
-add-result : tie.Need-overflow-add-result
+add-result : tie.Need-overflow_add-result
 add-result c = search rules
 
-returns-2 : tie.Need-returns-2
-returns-2 c = record { is = refl; long = refl; low = λ i h. omega (arith, c.before.before.requires.1 c.if1.false i h); rest = refl }
+returns-2 : tie.Need-returns
+returns-2 c = record { is = refl; long = refl; low = λ i h. omega (arith, c.requires.1 c.if-m-eq0.false i h); rest = refl }
 
 pub mark_for_spec : {M : Type 1} → statement M
 mark_for_spec =

@@ -1,5 +1,6 @@
 // The tree: the parent and the kind of every line of the list.
 #![tactic(auto)]
+
 mod leads;
 mod note;
 mod rank;

@@ -14,28 +14,28 @@ use borrow.Author.Rules.{rules}
 use Rattle.tree.proofs.tree.Statement.{statement}
 use Rattle.tree.proofs.tree.Tie as tie
 
-tree-verdict-requires : tie.Need-tree-verdict-requires
+tree-verdict-requires : tie.Need-tree_verdict-v-requires
 tree-verdict-requires c κs = search rules
 
 answered-requires : tie.Need-answered-requires
 answered-requires c κs = search rules
 
-same_length : tie.Need-same-length
+same_length : tie.Need-shape_of-work-then-v-ne0
 same_length c = search rules
 
-same-length-2 : tie.Need-same-length-2
+same-length-2 : tie.Need-shape_of-words-then-v-ne0
 same-length-2 c = search rules
 
-same-length-3 : tie.Need-same-length-3
+same-length-3 : tie.Need-shape_of-places-then-v-ne0
 same-length-3 c = search rules
 
-returns : tie.Need-returns
+returns : tie.Need-returns-then-v-ne0
 returns c =
-    let a = c.before.before.before.before.before.before.before.before.before.before.before.before.args in
+    let a = c.args in
     let y = (tree_verdict eight (picture a.w a.h a.px.now) a.levels.now a.work.now a.words.now a.places.now) in
     let l = (listed eight (picture a.w a.h a.px.now) a.levels.now) in
-    let v = c.before.before.before.tree-verdict.ensures in
-    let e : y.number ≡ 0 → ⊥ = λ z. c.before.if1.true (ap (λ (x : Verdict). x.number) v ∙ z) in (
+    let v = c.tree_verdict-v.ensures in
+    let e : y.number ≡ 0 → ⊥ = λ z. c.if-v-ne0.true (ap (λ (x : Verdict). x.number) v ∙ z) in (
       c.answered.ensures ∙ rw v (refused_answer y 0 0 e ∙ sym (refused_answer y (length l) (tally (flagged eight) l) e)),
       sym (refused_after y a.work.now _ e),
       sym (refused_after y a.words.now _ e),
@@ -44,25 +44,25 @@ returns c =
 
 make-requires : tie.Need-make-requires
 make-requires c κs =
-    let a = c.before.before.before.before.before.before.before.before.before.before.before.before.before.before.args in
-    passed_both eight (picture a.w a.h a.px.now) a.levels.now a.work.now a.words.now a.places.now (ap (λ (x : Verdict). x.number) (sym c.before.before.before.before.before.tree-verdict.ensures) ∙ c.before.before.before.if1.false)
+    let a = c.args in
+    passed_both eight (picture a.w a.h a.px.now) a.levels.now a.work.now a.words.now a.places.now (ap (λ (x : Verdict). x.number) (sym c.tree_verdict-v.ensures) ∙ c.if-v-ne0.false)
 
-same-length-4 : tie.Need-same-length-4
+same-length-4 : tie.Need-shape_of-work
 same-length-4 c = search rules
 
-same-length-5 : tie.Need-same-length-5
+same-length-5 : tie.Need-shape_of-words
 same-length-5 c = search rules
 
-same-length-6 : tie.Need-same-length-6
+same-length-6 : tie.Need-shape_of-places
 same-length-6 c = search rules
 
-returns-2 : tie.Need-returns-2
+returns-2 : tie.Need-returns
 returns-2 c =
-    let a = c.before.before.before.before.before.before.before.before.before.before.before.before.before.before.before.before.before.before.before.before.before.args in
+    let a = c.args in
     let y = (tree_verdict eight (picture a.w a.h a.px.now) a.levels.now a.work.now a.words.now a.places.now) in
     let l = (listed eight (picture a.w a.h a.px.now) a.levels.now) in
-    let e : y.number ≡ 0 = ap (λ (x : Verdict). x.number) (sym c.before.before.before.before.before.before.before.before.before.before.before.before.tree-verdict.ensures) ∙ c.before.before.before.before.before.before.before.before.before.before.if1.false in
-    let m = c.before.before.before.before.before.before.make.ensures in (
+    let e : y.number ≡ 0 = ap (λ (x : Verdict). x.number) (sym c.tree_verdict-v.ensures) ∙ c.if-v-ne0.false in
+    let m = c.make.ensures in (
       m.answers ∙ sym (done_answer y (length l) (tally (flagged eight) l) e),
       m.work_is ∙ sym (done_after y a.work.now _ e),
       m.words_are ∙ sym (done_after y a.words.now _ e),
@@ -72,15 +72,4 @@ returns-2 c =
 pub tree_spec : {M : Type 1} → statement M
 tree_spec =
     tie.close
-    (tie.spec
-    tree-verdict-requires
-    answered-requires
-    same_length
-    same-length-2
-    same-length-3
-    returns
-    make-requires
-    same-length-4
-    same-length-5
-    same-length-6
-    returns-2)
+    (tie.spec tree-verdict-requires answered-requires same_length same-length-2 same-length-3 returns make-requires same-length-4 same-length-5 same-length-6 returns-2)

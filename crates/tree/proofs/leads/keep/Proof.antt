@@ -10,26 +10,26 @@ use borrow.Author.Rules.{rules}
 use Rattle.tree.proofs.leads.keep.Statement.{statement}
 use Rattle.tree.proofs.leads.keep.Tie as tie
 
-mul-places : tie.Need-overflow-mul-places
+mul-places : tie.Need-offset_bounds-places-m
 mul-places c = search rules
 
-slice-write-places : tie.Need-slice-write-places
+slice-write-places : tie.Need-bounds-places-m
 slice-write-places c =
-    c.before.requires.0 (le-leb _ _ c.if1.true)
+    c.requires.0 (le-leb _ _ c.if-u-ge2147483648.true)
 
-add-result : tie.Need-overflow-add-result
+add-result : tie.Need-overflow_add-result
 add-result c = search rules
 
-same_length : tie.Need-same-length
+same_length : tie.Need-shape_of-places-then-u-ge2147483648
 same_length c = search rules
 
-returns : tie.Need-returns
+returns : tie.Need-returns-then-u-ge2147483648
 returns c =
-    rw (le-leb 2147483648 c.before.args.u c.if1.true) (refl, refl)
+    rw (le-leb 2147483648 c.args.u c.if-u-ge2147483648.true) (refl, refl)
 
-returns-2 : tie.Need-returns-2
+returns-2 : tie.Need-returns
 returns-2 c =
-    rw (lt-leb 2147483648 c.before.args.u c.if1.false) (omega arith, refl)
+    rw (lt-leb 2147483648 c.args.u c.if-u-ge2147483648.false) (omega arith, refl)
 
 pub keep_spec : {M : Type 1} → statement M
 keep_spec =

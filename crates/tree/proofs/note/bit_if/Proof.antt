@@ -8,11 +8,11 @@ use Rattle.tally.specs.Tally.{one}
 use Rattle.tree.proofs.note.bit_if.Statement.{statement}
 use Rattle.tree.proofs.note.bit_if.Tie as tie
 
-returns : tie.Need-returns
-returns c = (sym (ap (λ (z : Bool). one z * c.before.args.v) c.if1.true ∙ one-mul c.before.args.v), omega arith)
+returns : tie.Need-returns-then-b
+returns c = (sym (ap (λ (z : Bool). one z * c.args.v) c.if-b.true ∙ one-mul c.args.v), omega arith)
 
-returns-2 : tie.Need-returns-2
-returns-2 c = (sym (ap (λ (z : Bool). one z * c.before.args.v) c.if1.false ∙ zero-mul c.before.args.v), omega arith)
+returns-2 : tie.Need-returns-else-b
+returns-2 c = (sym (ap (λ (z : Bool). one z * c.args.v) c.if-b.false ∙ zero-mul c.args.v), omega arith)
 
 pub bit_if_spec : {M : Type 1} → statement M
 bit_if_spec = tie.close (tie.spec returns returns-2)

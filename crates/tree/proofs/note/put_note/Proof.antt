@@ -12,51 +12,43 @@ use Rattle.tree.proofs.note.put_note.Tie as tie
 level-requires : tie.Need-level-requires
 level-requires c κs = tt
 
-rank-of-requires : tie.Need-rank-of-requires
+rank-of-requires : tie.Need-rank_of-r-requires
 rank-of-requires c κs = search rules
 
-note-of-requires : tie.Need-note-of-requires
+note-of-requires : tie.Need-note_of-requires
 note-of-requires c κs = search rules
 
-mul_words : tie.Need-overflow-mul-words
+mul_words : tie.Need-offset_bounds-words-r
 mul_words c =
-    let z = c.before.before.before.before.before.before.before in
+    let z = c in
     let a = z.args in
-    let h = sym (c.before.before.before.level.ensures a.s.place) ∙ c.before.before.if1.true in
-    omega (arith, c.before.rank-of.ensures, z.requires.7 h, z.well-formed.1.1.1.1.1.1.1.0.1)
+    let h = sym (c.level.ensures a.s.place) ∙ c.if-level.true in
+    omega (arith, c.rank_of-r.ensures, z.requires.7 h, z.well_formed.1.1.1.1.1.1.1.0.1)
 
-slice-write-words : tie.Need-slice-write-words
+slice-write-words : tie.Need-bounds-words-r
 slice-write-words c =
-    let z = c.before.before.before.before.before.before.before in
+    let z = c in
     let a = z.args in
-    let h = sym (c.before.before.before.level.ensures a.s.place) ∙ c.before.before.if1.true in
-    omega (arith, c.before.rank-of.ensures, z.requires.7 h)
+    let h = sym (c.level.ensures a.s.place) ∙ c.if-level.true in
+    omega (arith, c.rank_of-r.ensures, z.requires.7 h)
 
-same_length : tie.Need-same-length
+same_length : tie.Need-shape_of-words-then-level
 same_length c = search rules
 
-returns : tie.Need-returns
+returns : tie.Need-returns-then-level
 returns c =
-    let a = c.before.before.before.before.before.before.before.args in
-    let h = sym (c.before.before.before.level.ensures a.s.place) ∙ c.before.before.if1.true in
-    ap (λ (z : ℕ). set a.words.now z c.note-of.result) c.before.rank-of.ensures
-    ∙ ap (set a.words.now (rank_at a.st.now a.px.now a.k a.s.place)) c.note-of.ensures
+    let a = c.args in
+    let h = sym (c.level.ensures a.s.place) ∙ c.if-level.true in
+    ap (λ (z : ℕ). set a.words.now z c.note_of.result) c.rank_of-r.ensures
+    ∙ ap (set a.words.now (rank_at a.st.now a.px.now a.k a.s.place)) c.note_of.ensures
     ∙ sym (note_flat a.st.now a.px.now a.k a.n a.e a.words.now a.s h)
 
-returns-2 : tie.Need-returns-2
+returns-2 : tie.Need-returns
 returns-2 c =
-    let a = c.before.before.before.before.before.args in
-    sym (note_tall a.st.now a.px.now a.k a.n a.e a.words.now a.s (sym (c.before.level.ensures a.s.place) ∙ c.if1.false))
+    let a = c.args in
+    sym (note_tall a.st.now a.px.now a.k a.n a.e a.words.now a.s (sym (c.level.ensures a.s.place) ∙ c.if-level.false))
 
 pub put_note_spec : {M : Type 1} → statement M
 put_note_spec =
     tie.close
-    (tie.spec
-    level-requires
-    rank-of-requires
-    note-of-requires
-    mul_words
-    slice-write-words
-    same_length
-    returns
-    returns-2)
+    (tie.spec level-requires rank-of-requires note-of-requires mul_words slice-write-words same_length returns returns-2)

@@ -11,28 +11,28 @@ use borrow.Author.Rules.{rules}
 use Rattle.tree.proofs.rank.crossings_of.Statement.{statement}
 use Rattle.tree.proofs.rank.crossings_of.Tie as tie
 
-step-table-requires : tie.Need-step-table-requires
+step-table-requires : tie.Need-step_table-st-requires
 step-table-requires c κs = search rules
 
-sub-sum-to : tie.Need-overflow-sub-sum-to
+sub-sum-to : tie.Need-overflow_sub-px
 sub-sum-to c =
-    some c.before.before.before.before.requires.0
+    some c.requires.0
 
-sum-to-requires : tie.Need-sum-to-requires
+sum-to-requires : tie.Need-sum_to-requires
 sum-to-requires c κs =
-    let z = c.before.before.before.before in
+    let z = c in
     let n = some z.requires.0 in
     (omega arith, omega arith, area_most z.requires.0, sym (gaps_none _ z.args.px.now), omega arith)
 
-cast-result : tie.Need-overflow-cast-result
+cast-result : tie.Need-overflow_cast-result
 cast-result c = search rules
 
 returns : tie.Need-returns
 returns c =
-    let z = c.before.before.before.before.before in
+    let z = c in
     let a = z.args in
     let n = some z.requires.0 in (
-      c.sum_to.ensures.0 ∙ gaps_total (picture a.w a.h a.px.now) a.ks.now z.requires.0 z.requires.1 _ (table_of a.ks.now _ c.before.before.step-table.ensures) (λ i. (c.before.before.before.before.shared-slice-known.given i).fits),
+      c.sum_to.ensures.0 ∙ gaps_total (picture a.w a.h a.px.now) a.ks.now z.requires.0 z.requires.1 _ (table_of a.ks.now _ c.step_table-st.ensures) (λ i. (c.shared_slice_known-1.given i).fits),
       omega (arith, c.sum_to.ensures.1, area_most z.requires.0),
     )
 

@@ -8,43 +8,43 @@ use Rattle.tree.proofs.Sums.{gaps_more}
 use Rattle.tree.proofs.rank.sum_to.Statement.{statement}
 use Rattle.tree.proofs.rank.sum_to.Tie as tie
 
-abbrev invariant-loop : tie.invariant-loop
+abbrev invariant-loop : tie.invariant-loop-i
 invariant-loop px st a e n m₀ i₀ m i = (i ≤ e) × (m ≡ gaps st px i) × (m ≤ 255 * i)
 
-abbrev decreases-loop : tie.decreases-loop
+abbrev decreases-loop : tie.decreases-loop-i
 decreases-loop px st a e n m₀ i₀ m i = e - i
 
-loop-holds : tie.Need-loop-init invariant-loop decreases-loop
-loop-holds c = let p = c.before.requires in (p.0, p.3, p.4)
+loop-holds : tie.Need-loop-i-init invariant-loop decreases-loop
+loop-holds c = let p = c.requires in (p.0, p.3, p.4)
 
-gap-at-requires : tie.Need-gap-at-requires invariant-loop decreases-loop
+gap-at-requires : tie.Need-gap_at-requires invariant-loop decreases-loop
 gap-at-requires c κs =
-    let z = c.before.before.before in
-    (omega (arith, c.loop-test.true, z.requires.1), z.requires.2)
+    let z = c in
+    (omega (arith, c.loop-i-test.true, z.requires.1), z.requires.2)
 
-cast-m : tie.Need-overflow-cast-m invariant-loop decreases-loop
+cast-m : tie.Need-overflow_cast-m invariant-loop decreases-loop
 cast-m c = omega (arith, c.gap_at.ensures.1)
 
-add-m : tie.Need-overflow-add-m invariant-loop decreases-loop
+add-m : tie.Need-overflow_add-m invariant-loop decreases-loop
 add-m c =
-    let z = c.before.before.before.before in
-    let l = c.before.before.loop in
-    omega (arith, l.invariant.2, c.gap_at.ensures.1, c.before.loop-test.true, z.requires.1, z.requires.2)
+    let z = c in
+    let l = c.loop-i in
+    omega (arith, l.invariant.2, c.gap_at.ensures.1, c.loop-i-test.true, z.requires.1, z.requires.2)
 
-add-i : tie.Need-overflow-add-i invariant-loop decreases-loop
+add-i : tie.Need-overflow_add-i invariant-loop decreases-loop
 add-i c =
-    let z = c.before.before.before.before in
-    omega (arith, c.before.loop-test.true, z.requires.1, z.requires.2)
+    let z = c in
+    omega (arith, c.loop-i-test.true, z.requires.1, z.requires.2)
 
-loop-less : tie.Need-loop-smaller invariant-loop decreases-loop
-loop-less c = omega (arith, c.before.loop-test.true)
+loop-less : tie.Need-loop-i-smaller invariant-loop decreases-loop
+loop-less c = omega (arith, c.loop-i-test.true)
 
-loop-again : tie.Need-loop-preserved invariant-loop decreases-loop
+loop-again : tie.Need-loop-i-preserved invariant-loop decreases-loop
 loop-again c =
-    let a = c.before.before.before.before.args in
-    let l = c.before.before.loop in
+    let a = c.args in
+    let l = c.loop-i in
     let r = c.gap_at in (
-      omega (arith, c.before.loop-test.true),
+      omega (arith, c.loop-i-test.true),
       ap (λ (z : ℕ). z + r.result) l.invariant.1
           ∙ ap (λ (z : ℕ). gaps a.st.now a.px.now l.i + z) r.ensures.0
           ∙ sym (gaps_more a.st.now a.px.now l.i),
@@ -53,9 +53,9 @@ loop-again c =
 
 returns : tie.Need-returns invariant-loop decreases-loop
 returns c =
-    let a = c.before.before.before.args in
-    let l = c.before.loop in
-    let s : l.i ≡ a.e = omega (arith, c.loop-test.false, l.invariant.0) in
+    let a = c.args in
+    let l = c.loop-i in
+    let s : l.i ≡ a.e = omega (arith, c.loop-i-test.false, l.invariant.0) in
     (l.invariant.1 ∙ ap (gaps a.st.now a.px.now) s, omega (arith, l.invariant.2))
 
 pub sum_to_spec : {M : Type 1} → statement M

@@ -185,7 +185,7 @@ module _ (P : Picture) (ks : List ℕ) (S : Scan P ks) where
   line_is_part k m h l =
       let I = line_at_lem P k m l in
       let N = number_of setting (record { lvl = k; lead = I.lead; listed = h; leads = I.leading }) in
-      let b : N.n < line_total P ks = omega (arith, count_flags setting, N.in_List) in (
+      let b : N.n < line_total P ks = omega (arith, count_flags setting, N.in_list) in (
         N.n,
         b,
         part_is_line N.n b

@@ -38,13 +38,20 @@ use Rattle.olr.proofs.Taken.{words_length}
 use Rattle.olr.proofs.There.{file_length_lem}
 use Rattle.olr.proofs.Write.{writable}
 use Rattle.trace.proofs as Trace
+use Rattle.trace.specs.contracts as TraceContracts
 use Rattle.tree.proofs as Tree
+use Rattle.tree.specs.contracts as TreeContracts
 use Rattle.tree.proofs.Verdicts.{passed_both}
 use Rattle.frame.proofs as Frame
+use Rattle.frame.specs.contracts as FrameContracts
 use Rattle.paint.proofs as Paint
+use Rattle.paint.specs.contracts as PaintContracts
 use Rattle.olr.proofs as Olr
+use Rattle.olr.specs.contracts as OlrContracts
 use Rattle.pgm.proofs as Pgm
+use Rattle.pgm.specs.contracts as PgmContracts
 use Rattle.host.proofs as Host
+use Rattle.host.specs.contracts as HostContracts
 use Rattle.promises.proofs.RefusedExactly.{same_number}
 use Rattle.promises.proofs.DemandThree.{Scan}
 use Rattle.promises.proofs.DemandThreeWords.{setting}
@@ -139,82 +146,82 @@ module _ (T : Ended) (C : Property T) (number : (κs : Lfts T.signature.lifetime
 number_of : (z r : Answer) → z ≡ r → z.number ≡ 0 → r.number ≡ 0
 number_of z r p e = ap (λ (a : Answer). a.number) (sym p) ∙ e
 
-abbrev pub ListHolds : Property Trace.list.ended
+abbrev pub ListHolds : Property TraceContracts.list.ended
 ListHolds κs (w, (h, (px, (levels, (work, (words, u)))))) z (w', (h', (px', (levels', (work', (words', u')))))) =
     Holds z.words (listed eight (picture w h px.now) levels.now) words.now words'.now × Holds (w * h) (replicate (w * h) 0) work.now work'.now
 
-pub list_done : Done Trace.list.ended Trace.list.Reads.Learnt (λ κs z. z.number) ListHolds
+pub list_done : Done TraceContracts.list.ended Trace.list.Reads.Learnt (λ κs z. z.number) ListHolds
 list_done κs (w, (h, (px, (levels, (work, (words, u)))))) z ws p e =
     let H = list_holds (picture w h px.now) levels.now work.now words.now (number_of z _ p.0 e) in
     (holds_as _ _ _ _ _ _ (ap (λ (a : Answer). a.words) p.0) p.2 H.0, holds_as _ _ _ _ _ _ refl p.1 H.1)
 
-abbrev pub TreeHolds : Property Tree.tree.ended
+abbrev pub TreeHolds : Property TreeContracts.tree.ended
 TreeHolds κs (w, (h, (px, (levels, (work, (words, (places, u))))))) z (w', (h', (px', (levels', (work', (words', (places', u'))))))) =
     Holds z.words (listed eight (picture w h px.now) levels.now) words.now words'.now
     × Holds z.lines (entries eight (picture w h px.now) levels.now) places.now places'.now
     × Holds (w * h) (replicate (w * h) 0) work.now work'.now
 
-pub tree_done : Done Tree.tree.ended Tree.tree.Reads.Learnt (λ κs z. z.number) TreeHolds
+pub tree_done : Done TreeContracts.tree.ended Tree.tree.Reads.Learnt (λ κs z. z.number) TreeHolds
 tree_done κs (w, (h, (px, (levels, (work, (words, (places, u))))))) z ws p e =
     let H = tree_holds (picture w h px.now) levels.now work.now words.now places.now (number_of z _ p.0 e) in
     (holds_as _ _ _ _ _ _ (ap (λ (a : Answer). a.words) p.0) p.2 H.0, holds_as _ _ _ _ _ _ (ap (λ (a : Answer). a.lines) p.0) p.3 H.1, holds_as _ _ _ _ _ _ refl p.1 H.2)
 
-abbrev pub FrameHolds : Property Frame.frame_picture.ended
+abbrev pub FrameHolds : Property FrameContracts.frame_picture.ended
 FrameHolds κs (w, (h, (px, (room, u)))) z (w', (h', (px', (room', u')))) = Holds (w * h) (framed eight (picture w h px.now)) room.now room'.now
 
-pub frame_done : Done Frame.frame_picture.ended Frame.frame_picture.Reads.Learnt (λ κs z. z.number) FrameHolds
+pub frame_done : Done FrameContracts.frame_picture.ended Frame.frame_picture.Reads.Learnt (λ κs z. z.number) FrameHolds
 frame_done κs (w, (h, (px, (room, u)))) z ws p e =
     holds_as _ _ _ _ _ _ refl p.1 (frame_holds (picture w h px.now) room.now (number_of z _ p.0 e))
 
-abbrev pub PaintHolds : Property Paint.paint_words.ended
+abbrev pub PaintHolds : Property PaintContracts.paint_words.ended
 PaintHolds κs (w, (h, (v, (levels, (words, (room, u)))))) z (w', (h', (v', (levels', (words', (room', u')))))) =
     Holds (w * h) (painting eight w h v levels.now words.now) room.now room'.now
 
-pub paint_done : Done Paint.paint_words.ended Paint.paint_words.Reads.Learnt (λ κs z. z.number) PaintHolds
+pub paint_done : Done PaintContracts.paint_words.ended Paint.paint_words.Reads.Learnt (λ κs z. z.number) PaintHolds
 paint_done κs (w, (h, (v, (levels, (words, (room, u)))))) z ws p e =
     holds_as _ _ _ _ _ _ refl p.1 (paint_holds w h v levels.now words.now room.now (number_of z _ p.0 e))
 
-abbrev pub WriteHolds : Property Olr.write_file.ended
+abbrev pub WriteHolds : Property OlrContracts.write_file.ended
 WriteHolds κs (w, (h, (v, (levels, (words, (room, u)))))) z (w', (h', (v', (levels', (words', (room', u')))))) =
     Holds (file_length w h v levels.now words.now) (file w h v levels.now words.now) room.now room'.now
 
-pub write_done : Done Olr.write_file.ended Olr.write_file.Reads.Learnt (λ κs z. z.number) WriteHolds
+pub write_done : Done OlrContracts.write_file.ended Olr.write_file.Reads.Learnt (λ κs z. z.number) WriteHolds
 write_done κs (w, (h, (v, (levels, (words, (room, u)))))) z ws p e =
     holds_as _ _ _ _ _ _ refl p.1 (write_holds w h v levels.now words.now room.now (number_of z _ p.0 e))
 
-abbrev pub ReadHolds : Property Olr.read_file.ended
+abbrev pub ReadHolds : Property OlrContracts.read_file.ended
 ReadHolds κs (f, (words, u)) z (f', (words', u')) = Holds z.answer.words (file_words f.now) words.now words'.now
 
-pub read_done : Done Olr.read_file.ended Olr.read_file.Reads.Learnt (λ κs z. z.answer.number) ReadHolds
+pub read_done : Done OlrContracts.read_file.ended Olr.read_file.Reads.Learnt (λ κs z. z.answer.number) ReadHolds
 read_done κs (f, (words, u)) z ws p e =
     let q = ap (λ (s : Stored). s.answer) p.0 in
     holds_as _ _ _ _ _ _ (ap (λ (a : Answer). a.words) q) p.1 (read_holds f.now words.now (number_of z.answer _ q e))
 
-abbrev pub PgmHolds : Property Pgm.read_pgm.ended
+abbrev pub PgmHolds : Property PgmContracts.read_pgm.ended
 PgmHolds κs (f, (room, u)) z (f', (room', u')) = Holds (z.width * z.height) (pgm_samples f.now (head_of f.now)) room.now room'.now
 
-pub pgm_done : Done Pgm.read_pgm.ended Pgm.read_pgm.Reads.Learnt (λ κs z. z.answer.number) PgmHolds
+pub pgm_done : Done PgmContracts.read_pgm.ended Pgm.read_pgm.Reads.Learnt (λ κs z. z.answer.number) PgmHolds
 pgm_done κs (f, (room, u)) z ws p e =
     holds_as _ _ _ _ _ _ (ap (λ (s : Grey). s.width * s.height) p.0) p.1 (pgm_holds f.now room.now (number_of z.answer _ (ap (λ (s : Grey). s.answer) p.0) e))
 
 -- ---- the calls for C, with the same contracts
-pub c_list_done : Done Host.loafcanyon_list.ended Host.loafcanyon_list.Reads.Learnt (λ κs z. z.number) ListHolds
+pub c_list_done : Done HostContracts.loafcanyon_list.ended Host.loafcanyon_list.Reads.Learnt (λ κs z. z.number) ListHolds
 c_list_done = list_done
 
-pub c_tree_done : Done Host.loafcanyon_tree.ended Host.loafcanyon_tree.Reads.Learnt (λ κs z. z.number) TreeHolds
+pub c_tree_done : Done HostContracts.loafcanyon_tree.ended Host.loafcanyon_tree.Reads.Learnt (λ κs z. z.number) TreeHolds
 c_tree_done = tree_done
 
-pub c_frame_done : Done Host.loafcanyon_frame.ended Host.loafcanyon_frame.Reads.Learnt (λ κs z. z.number) FrameHolds
+pub c_frame_done : Done HostContracts.loafcanyon_frame.ended Host.loafcanyon_frame.Reads.Learnt (λ κs z. z.number) FrameHolds
 c_frame_done = frame_done
 
-pub c_paint_done : Done Host.loafcanyon_paint.ended Host.loafcanyon_paint.Reads.Learnt (λ κs z. z.number) PaintHolds
+pub c_paint_done : Done HostContracts.loafcanyon_paint.ended Host.loafcanyon_paint.Reads.Learnt (λ κs z. z.number) PaintHolds
 c_paint_done = paint_done
 
-pub c_write_done : Done Host.loafcanyon_write.ended Host.loafcanyon_write.Reads.Learnt (λ κs z. z.number) WriteHolds
+pub c_write_done : Done HostContracts.loafcanyon_write.ended Host.loafcanyon_write.Reads.Learnt (λ κs z. z.number) WriteHolds
 c_write_done = write_done
 
-pub c_read_done : Done Host.loafcanyon_read.ended Host.loafcanyon_read.Reads.Learnt (λ κs z. z.answer.number) ReadHolds
+pub c_read_done : Done HostContracts.loafcanyon_read.ended Host.loafcanyon_read.Reads.Learnt (λ κs z. z.answer.number) ReadHolds
 c_read_done = read_done
 
-pub c_pgm_done : Done Host.loafcanyon_pgm.ended Host.loafcanyon_pgm.Reads.Learnt (λ κs z. z.answer.number) PgmHolds
+pub c_pgm_done : Done HostContracts.loafcanyon_pgm.ended Host.loafcanyon_pgm.Reads.Learnt (λ κs z. z.answer.number) PgmHolds
 c_pgm_done = pgm_done

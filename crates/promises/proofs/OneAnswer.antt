@@ -1,5 +1,5 @@
 -- One answer: of the result and of all lent memory a contract leaves no choice, for any input, refused ones too. Assumes nothing.
--- It is said of the contracts themselves: `C.f.ended` is the signature of the function f of the crate C with what it is lent, and `C.f.Reads.Learnt` what its proved contract tells of arguments, result and lent memory.
+-- It is said of the contracts themselves: `CContracts.f.ended` is the signature of the function f of the crate C with what it is lent (its contracts are named so), and `C.f.Reads.Learnt` what its proved contract tells of arguments, result and lent memory.
 -- Definitions: `SettledAs` whatever two results, looked at in some way, and two last contents of all lent memory the contract allows for one input, they coincide; `Settled` the same of the results themselves; `seen` a
 --   reference's address and contents.
 -- Main laws: `settled_as` a contract that says what the result and each last content are settles them, `settled` the same of the result itself; `NAME-one` it for each call. `part_one` is of
@@ -11,17 +11,28 @@ use denote.Ref.{Bor}
 use denote.Triple.Entry.{Args, Res}
 use denote.Triple.Clauses.{Ended, Lasts, AtExit, at_exit}
 use Rattle.trace.proofs as Trace
+use Rattle.trace.specs.contracts as TraceContracts
 use Rattle.tree.proofs as Tree
+use Rattle.tree.specs.contracts as TreeContracts
 use Rattle.frame.proofs as Frame
+use Rattle.frame.specs.contracts as FrameContracts
 use Rattle.crossing.proofs as Crossing
+use Rattle.crossing.specs.contracts as CrossingContracts
 use Rattle.piece.proofs as Piece
+use Rattle.piece.specs.contracts as PieceContracts
 use Rattle.piece.proofs.Back.{found_by, found_back}
 use Rattle.paint.proofs as Paint
+use Rattle.paint.specs.contracts as PaintContracts
 use Rattle.olr.proofs as Olr
+use Rattle.olr.specs.contracts as OlrContracts
 use Rattle.pgm.proofs as Pgm
+use Rattle.pgm.specs.contracts as PgmContracts
 use Rattle.form.proofs as Form
+use Rattle.form.specs.contracts as FormContracts
 use Rattle.text.proofs as Text
+use Rattle.text.specs.contracts as TextContracts
 use Rattle.host.proofs as Host
+use Rattle.host.specs.contracts as HostContracts
 
 -- all of a reference that a program has: its address and what lies there
 abbrev pub seen : {A : Type 0} → Bor A → (ℕ × ℕ) × A
@@ -51,85 +62,85 @@ module _ (T : Ended) (C : (κs : Lfts T.signature.lifetimes) → Args T.signatur
   settled says = settled_as (λ κs z. z) says
 
 -- ---- the calls of the base
-pub list_one : Settled Trace.list.ended Trace.list.Reads.Learnt
-list_one = settled Trace.list.ended Trace.list.Reads.Learnt (λ κs a z ws p. (p.0, λ i. (tt, (tt, (tt, (tt, (p.1 i, (p.2 i, tt))))))))
+pub list_one : Settled TraceContracts.list.ended Trace.list.Reads.Learnt
+list_one = settled TraceContracts.list.ended Trace.list.Reads.Learnt (λ κs a z ws p. (p.0, λ i. (tt, (tt, (tt, (tt, (p.1 i, (p.2 i, tt))))))))
 
-pub tree_one : Settled Tree.tree.ended Tree.tree.Reads.Learnt
-tree_one = settled Tree.tree.ended Tree.tree.Reads.Learnt (λ κs a z ws p. (p.0, λ i. (tt, (tt, (tt, (tt, (p.1 i, (p.2 i, (p.3 i, tt)))))))))
+pub tree_one : Settled TreeContracts.tree.ended Tree.tree.Reads.Learnt
+tree_one = settled TreeContracts.tree.ended Tree.tree.Reads.Learnt (λ κs a z ws p. (p.0, λ i. (tt, (tt, (tt, (tt, (p.1 i, (p.2 i, (p.3 i, tt)))))))))
 
-pub frame_one : Settled Frame.frame_picture.ended Frame.frame_picture.Reads.Learnt
-frame_one = settled Frame.frame_picture.ended Frame.frame_picture.Reads.Learnt (λ κs a z ws p. (p.0, λ i. (tt, (tt, (tt, (p.1 i, tt))))))
+pub frame_one : Settled FrameContracts.frame_picture.ended Frame.frame_picture.Reads.Learnt
+frame_one = settled FrameContracts.frame_picture.ended Frame.frame_picture.Reads.Learnt (λ κs a z ws p. (p.0, λ i. (tt, (tt, (tt, (p.1 i, tt))))))
 
-pub crossing_one : Settled Crossing.crossing_at.ended Crossing.crossing_at.Reads.Learnt
-crossing_one = settled Crossing.crossing_at.ended Crossing.crossing_at.Reads.Learnt (λ κs a z ws p. (p, refl))
+pub crossing_one : Settled CrossingContracts.crossing_at.ended Crossing.crossing_at.Reads.Learnt
+crossing_one = settled CrossingContracts.crossing_at.ended Crossing.crossing_at.Reads.Learnt (λ κs a z ws p. (p, refl))
 
-pub piece_one : Settled Piece.piece_at.ended Piece.piece_at.Reads.Learnt
-piece_one = settled Piece.piece_at.ended Piece.piece_at.Reads.Learnt (λ κs a z ws p. (sym (found_back z) ∙ ap found_by p, refl))
+pub piece_one : Settled PieceContracts.piece_at.ended Piece.piece_at.Reads.Learnt
+piece_one = settled PieceContracts.piece_at.ended Piece.piece_at.Reads.Learnt (λ κs a z ws p. (sym (found_back z) ∙ ap found_by p, refl))
 
-pub part_one : SettledAs Paint.line_part.ended Paint.line_part.Reads.Learnt (λ κs z. seen z)
-part_one = settled_as Paint.line_part.ended Paint.line_part.Reads.Learnt (λ κs z. seen z) (λ κs a z ws p. (λ i. (p.1 i, p.0 i), refl))
+pub part_one : SettledAs PaintContracts.line_part.ended Paint.line_part.Reads.Learnt (λ κs z. seen z)
+part_one = settled_as PaintContracts.line_part.ended Paint.line_part.Reads.Learnt (λ κs z. seen z) (λ κs a z ws p. (λ i. (p.1 i, p.0 i), refl))
 
-pub start_one : Settled Paint.start_of.ended Paint.start_of.Reads.Learnt
-start_one = settled Paint.start_of.ended Paint.start_of.Reads.Learnt (λ κs a z ws p. (p, refl))
+pub start_one : Settled PaintContracts.start_of.ended Paint.start_of.Reads.Learnt
+start_one = settled PaintContracts.start_of.ended Paint.start_of.Reads.Learnt (λ κs a z ws p. (p, refl))
 
-pub member_one : Settled Paint.member.ended Paint.member.Reads.Learnt
-member_one = settled Paint.member.ended Paint.member.Reads.Learnt (λ κs a z ws p. (p, refl))
+pub member_one : Settled PaintContracts.member.ended Paint.member.Reads.Learnt
+member_one = settled PaintContracts.member.ended Paint.member.Reads.Learnt (λ κs a z ws p. (p, refl))
 
-pub paint_one : Settled Paint.paint_words.ended Paint.paint_words.Reads.Learnt
-paint_one = settled Paint.paint_words.ended Paint.paint_words.Reads.Learnt (λ κs a z ws p. (p.0, λ i. (tt, (tt, (tt, (tt, (tt, (p.1 i, tt))))))))
+pub paint_one : Settled PaintContracts.paint_words.ended Paint.paint_words.Reads.Learnt
+paint_one = settled PaintContracts.paint_words.ended Paint.paint_words.Reads.Learnt (λ κs a z ws p. (p.0, λ i. (tt, (tt, (tt, (tt, (tt, (p.1 i, tt))))))))
 
-pub write_one : Settled Olr.write_file.ended Olr.write_file.Reads.Learnt
-write_one = settled Olr.write_file.ended Olr.write_file.Reads.Learnt (λ κs a z ws p. (p.0, λ i. (tt, (tt, (tt, (tt, (tt, (p.1 i, tt))))))))
+pub write_one : Settled OlrContracts.write_file.ended Olr.write_file.Reads.Learnt
+write_one = settled OlrContracts.write_file.ended Olr.write_file.Reads.Learnt (λ κs a z ws p. (p.0, λ i. (tt, (tt, (tt, (tt, (tt, (p.1 i, tt))))))))
 
-pub read_one : Settled Olr.read_file.ended Olr.read_file.Reads.Learnt
-read_one = settled Olr.read_file.ended Olr.read_file.Reads.Learnt (λ κs a z ws p. (p.0, λ i. (tt, (p.1 i, tt))))
+pub read_one : Settled OlrContracts.read_file.ended Olr.read_file.Reads.Learnt
+read_one = settled OlrContracts.read_file.ended Olr.read_file.Reads.Learnt (λ κs a z ws p. (p.0, λ i. (tt, (p.1 i, tt))))
 
-pub pgm_one : Settled Pgm.read_pgm.ended Pgm.read_pgm.Reads.Learnt
-pgm_one = settled Pgm.read_pgm.ended Pgm.read_pgm.Reads.Learnt (λ κs a z ws p. (p.0, λ i. (tt, (p.1 i, tt))))
+pub pgm_one : Settled PgmContracts.read_pgm.ended Pgm.read_pgm.Reads.Learnt
+pgm_one = settled PgmContracts.read_pgm.ended Pgm.read_pgm.Reads.Learnt (λ κs a z ws p. (p.0, λ i. (tt, (p.1 i, tt))))
 
 -- ---- the calls of the listing program
-pub form_one : Settled Form.read_form.ended Form.read_form.Reads.Learnt
-form_one = settled Form.read_form.ended Form.read_form.Reads.Learnt (λ κs a z ws p. (p, refl))
+pub form_one : Settled FormContracts.read_form.ended Form.read_form.Reads.Learnt
+form_one = settled FormContracts.read_form.ended Form.read_form.Reads.Learnt (λ κs a z ws p. (p, refl))
 
-pub listing_one : Settled Text.put_listing.ended Text.put_listing.Reads.Learnt
-listing_one = settled Text.put_listing.ended Text.put_listing.Reads.Learnt (λ κs a z ws p. (p.next, λ i. (p.is i, (tt, (tt, (tt, (tt, (tt, (tt, (tt, tt))))))))))
+pub listing_one : Settled TextContracts.put_listing.ended Text.put_listing.Reads.Learnt
+listing_one = settled TextContracts.put_listing.ended Text.put_listing.Reads.Learnt (λ κs a z ws p. (p.next, λ i. (p.is i, (tt, (tt, (tt, (tt, (tt, (tt, (tt, tt))))))))))
 
-pub refused_one : Settled Text.put_refused.ended Text.put_refused.Reads.Learnt
-refused_one = settled Text.put_refused.ended Text.put_refused.Reads.Learnt (λ κs a z ws p. (p.next, λ i. (p.is i, (tt, tt))))
+pub refused_one : Settled TextContracts.put_refused.ended Text.put_refused.Reads.Learnt
+refused_one = settled TextContracts.put_refused.ended Text.put_refused.Reads.Learnt (λ κs a z ws p. (p.next, λ i. (p.is i, (tt, tt))))
 
-pub not_form_one : Settled Text.put_not_form.ended Text.put_not_form.Reads.Learnt
-not_form_one = settled Text.put_not_form.ended Text.put_not_form.Reads.Learnt (λ κs a z ws p. (p.next, λ i. (p.is i, tt)))
+pub not_form_one : Settled TextContracts.put_not_form.ended Text.put_not_form.Reads.Learnt
+not_form_one = settled TextContracts.put_not_form.ended Text.put_not_form.Reads.Learnt (λ κs a z ws p. (p.next, λ i. (p.is i, tt)))
 
 -- ---- the calls for C: those with the contract of a call of the base are settled as it is
-pub c_list_one : Settled Host.loafcanyon_list.ended Host.loafcanyon_list.Reads.Learnt
+pub c_list_one : Settled HostContracts.loafcanyon_list.ended Host.loafcanyon_list.Reads.Learnt
 c_list_one = list_one
 
-pub c_tree_one : Settled Host.loafcanyon_tree.ended Host.loafcanyon_tree.Reads.Learnt
+pub c_tree_one : Settled HostContracts.loafcanyon_tree.ended Host.loafcanyon_tree.Reads.Learnt
 c_tree_one = tree_one
 
-pub c_crossing_one : Settled Host.loafcanyon_crossing.ended Host.loafcanyon_crossing.Reads.Learnt
+pub c_crossing_one : Settled HostContracts.loafcanyon_crossing.ended Host.loafcanyon_crossing.Reads.Learnt
 c_crossing_one = crossing_one
 
-pub c_piece_one : Settled Host.loafcanyon_piece.ended Host.loafcanyon_piece.Reads.Learnt
-c_piece_one = settled Host.loafcanyon_piece.ended Host.loafcanyon_piece.Reads.Learnt (λ κs a z ws p. (p, refl))
+pub c_piece_one : Settled HostContracts.loafcanyon_piece.ended Host.loafcanyon_piece.Reads.Learnt
+c_piece_one = settled HostContracts.loafcanyon_piece.ended Host.loafcanyon_piece.Reads.Learnt (λ κs a z ws p. (p, refl))
 
-pub c_frame_one : Settled Host.loafcanyon_frame.ended Host.loafcanyon_frame.Reads.Learnt
+pub c_frame_one : Settled HostContracts.loafcanyon_frame.ended Host.loafcanyon_frame.Reads.Learnt
 c_frame_one = frame_one
 
-pub c_part_one : Settled Host.loafcanyon_part.ended Host.loafcanyon_part.Reads.Learnt
-c_part_one = settled Host.loafcanyon_part.ended Host.loafcanyon_part.Reads.Learnt (λ κs a z ws p. (p, refl))
+pub c_part_one : Settled HostContracts.loafcanyon_part.ended Host.loafcanyon_part.Reads.Learnt
+c_part_one = settled HostContracts.loafcanyon_part.ended Host.loafcanyon_part.Reads.Learnt (λ κs a z ws p. (p, refl))
 
-pub c_member_one : Settled Host.loafcanyon_member.ended Host.loafcanyon_member.Reads.Learnt
+pub c_member_one : Settled HostContracts.loafcanyon_member.ended Host.loafcanyon_member.Reads.Learnt
 c_member_one = member_one
 
-pub c_paint_one : Settled Host.loafcanyon_paint.ended Host.loafcanyon_paint.Reads.Learnt
+pub c_paint_one : Settled HostContracts.loafcanyon_paint.ended Host.loafcanyon_paint.Reads.Learnt
 c_paint_one = paint_one
 
-pub c_write_one : Settled Host.loafcanyon_write.ended Host.loafcanyon_write.Reads.Learnt
+pub c_write_one : Settled HostContracts.loafcanyon_write.ended Host.loafcanyon_write.Reads.Learnt
 c_write_one = write_one
 
-pub c_read_one : Settled Host.loafcanyon_read.ended Host.loafcanyon_read.Reads.Learnt
+pub c_read_one : Settled HostContracts.loafcanyon_read.ended Host.loafcanyon_read.Reads.Learnt
 c_read_one = read_one
 
-pub c_pgm_one : Settled Host.loafcanyon_pgm.ended Host.loafcanyon_pgm.Reads.Learnt
+pub c_pgm_one : Settled HostContracts.loafcanyon_pgm.ended Host.loafcanyon_pgm.Reads.Learnt
 c_pgm_one = pgm_one

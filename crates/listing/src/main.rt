@@ -1,10 +1,13 @@
 // The listing program: reads levels and a picture, prints the lines.
 #![tactic(auto)]
-ghost use Rattle.std.specs.Prelude.{◌≡◌, length};
+
+ghost use Rattle.std.specs.Prelude.{◌≡◌, ◌≤◌, length, IfOk};
 ghost use Rattle.text.specs.Put.{Put};
 ghost use Rattle.listing.specs.Printed.{Rooms, printed};
 
 use form::read_form;
+use std::io;
+use std::io::{Read, Write};
 use text::{put_listing, put_not_form, put_refused};
 use tree::tree;
 
@@ -72,13 +75,28 @@ fn text_room() -> [u8; 1048616]
     [0; 1048616]
 }
 
-fn main() {
+// Reads until the room is full or the input ends, and says how many bytes came.
+fn read_full<R: Read>(from: &mut R, room: &mut [u8]) -> io::Result<usize>
+    ensures { IfOk result (λ n. n ≤ length room.old) }
+{
+    let mut n = 0;
+    for _ in 0..room.len() {
+        let k = from.read(&mut room[n..])?;
+        if k == 0 {
+            break;
+        }
+        n += k;
+    }
+    Ok(n)
+}
+
+fn main(rt: HostRuntime) -> io::Result<()> {
     let mut input = input_room();
     let mut work = work_room();
     let mut words = word_room();
     let mut places = place_room();
     let mut out = text_room();
-    let n = io::read_full(0, &mut input);
+    let n = read_full(&mut rt.reader(), &mut input)?;
     let m = run(&input[0..n], &mut work, &mut words, &mut places, &mut out);
-    io::write_all(1, &out[0..m]);
+    io::writer(&rt).write_all(&out[0..m])
 }

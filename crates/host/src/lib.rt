@@ -1,4 +1,4 @@
-// The base calls as functions for C: thin, each with the call's own contract.
+// The base calls as C takes them: thin, each with the call's own contract. The crate host_c gives them to C.
 #![tactic(auto)]
 
 ghost use Rattle.std.specs.Prelude.{◌≡◌};
@@ -83,8 +83,7 @@ fn told(f: Found) -> ToldPiece
     }
 }
 
-#[unsafe(no_mangle)]
-pub extern "C" fn loafcanyon_list(
+pub fn loafcanyon_list(
     w: usize,
     h: usize,
     px: &[u8],
@@ -97,8 +96,7 @@ pub extern "C" fn loafcanyon_list(
     list(w, h, px, levels, work, words)
 }
 
-#[unsafe(no_mangle)]
-pub extern "C" fn loafcanyon_tree(
+pub fn loafcanyon_tree(
     w: usize,
     h: usize,
     px: &[u8],
@@ -112,42 +110,25 @@ pub extern "C" fn loafcanyon_tree(
     tree(w, h, px, levels, work, words, places)
 }
 
-#[unsafe(no_mangle)]
-pub extern "C" fn loafcanyon_crossing(
-    w: usize,
-    h: usize,
-    px: &[u8],
-    level: u8,
-    code: u32,
-) -> Crossing
+pub fn loafcanyon_crossing(w: usize, h: usize, px: &[u8], level: u8, code: u32) -> Crossing
     ensures { result ≡ crossing_answer eight (picture w h px.now) level code }
 {
     crossing_at(w, h, px, level, code)
 }
 
-#[unsafe(no_mangle)]
-pub extern "C" fn loafcanyon_piece(
-    w: usize,
-    h: usize,
-    px: &[u8],
-    level: u8,
-    x: usize,
-    y: usize,
-) -> ToldPiece
+pub fn loafcanyon_piece(w: usize, h: usize, px: &[u8], level: u8, x: usize, y: usize) -> ToldPiece
     ensures { result ≡ told_piece (piece_answer eight (picture w h px.now) level x y) }
 {
     told(piece_at(w, h, px, level, x, y))
 }
 
-#[unsafe(no_mangle)]
-pub extern "C" fn loafcanyon_frame(w: usize, h: usize, px: &[u8], room: &mut [u8]) -> Answer
+pub fn loafcanyon_frame(w: usize, h: usize, px: &[u8], room: &mut [u8]) -> Answer
     ensures { FrameCall eight (picture w h px.now) room.old result room.new }
 {
     frame_picture(w, h, px, room)
 }
 
-#[unsafe(no_mangle)]
-pub extern "C" fn loafcanyon_part(words: &[u32], n: usize) -> LinePlace
+pub fn loafcanyon_part(words: &[u32], n: usize) -> LinePlace
     ensures { result ≡ part_place n words.now }
 {
     let a = start_of(words, n);
@@ -158,8 +139,7 @@ pub extern "C" fn loafcanyon_part(words: &[u32], n: usize) -> LinePlace
     }
 }
 
-#[unsafe(no_mangle)]
-pub extern "C" fn loafcanyon_member(
+pub fn loafcanyon_member(
     w: usize,
     h: usize,
     words: &[u32],
@@ -172,8 +152,7 @@ pub extern "C" fn loafcanyon_member(
     member(w, h, words, n, x, y)
 }
 
-#[unsafe(no_mangle)]
-pub extern "C" fn loafcanyon_paint(
+pub fn loafcanyon_paint(
     w: usize,
     h: usize,
     v: u8,
@@ -186,8 +165,7 @@ pub extern "C" fn loafcanyon_paint(
     paint_words(w, h, v, levels, words, room)
 }
 
-#[unsafe(no_mangle)]
-pub extern "C" fn loafcanyon_write(
+pub fn loafcanyon_write(
     w: usize,
     h: usize,
     v: u8,
@@ -200,15 +178,13 @@ pub extern "C" fn loafcanyon_write(
     write_file(w, h, v, levels, words, file)
 }
 
-#[unsafe(no_mangle)]
-pub extern "C" fn loafcanyon_read(file: &[u8], words: &mut [u32]) -> Stored
+pub fn loafcanyon_read(file: &[u8], words: &mut [u32]) -> Stored
     ensures { ReadCall file.now words.old result words.new }
 {
     read_file(file, words)
 }
 
-#[unsafe(no_mangle)]
-pub extern "C" fn loafcanyon_pgm(file: &[u8], room: &mut [u8]) -> Grey
+pub fn loafcanyon_pgm(file: &[u8], room: &mut [u8]) -> Grey
     ensures { PgmCall file.now room.old result room.new }
 {
     read_pgm(file, room)

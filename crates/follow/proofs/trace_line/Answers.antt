@@ -4,7 +4,6 @@ use mathlib.Core.Bool.{Bool, true, false}
 use mathlib.Core.List.{List}
 use Prim.Native.Nat.{ℕ, ◌+◌, ◌*◌, ◌/◌, ◌<◌}
 use native.Mathlib.Omega.{arith}
-use borrow.Author.Rules.{rules}
 use lib.ListN.{length, set}
 use Rattle.matte.specs.Picture.{picture}
 use Rattle.edgel.specs.Word.{word}
@@ -18,61 +17,45 @@ use Rattle.store.specs.Store.{places_of}
 use Rattle.follow.proofs.Tracing.{place_in}
 use Rattle.follow.proofs.Flag.{line_cons, flag_first}
 use Rattle.follow.proofs.Plain.{first_word, pasted_length}
-use Rattle.follow.proofs.trace_line.Statement.{statement}
-use Rattle.follow.proofs.trace_line.Tie as tie
+use Rattle.follow.proofs.trace_line.Goals as goal
 
-follow-requires : tie.Need-follow-n-requires
-follow-requires c κs = search rules
-
-base-of-requires : tie.Need-base_of-base-requires
-base-of-requires c κs = search rules
-
-cast-put-in : tie.Need-overflow_cast-e
-cast-put-in c =
+pub overflow_cast-e : goal.overflow_cast-e
+overflow_cast-e c =
     let z = c in
     let a = z.args in
     let r : 2 * a.e / 2 < a.w * a.h = place_in (picture a.w a.h (samples_of a.wide a.px.now)) z.requires.0 a.k (2 * a.e) z.requires.3 in
     omega (arith, area_most z.requires.0, z.requires.0.whole, z.requires.5)
 
-mul-put-in : tie.Need-overflow_mul-e
-mul-put-in c =
+pub overflow_mul-e : goal.overflow_mul-e
+overflow_mul-e c =
     let z = c in
     let a = z.args in
     let r : 2 * a.e / 2 < a.w * a.h = place_in (picture a.w a.h (samples_of a.wide a.px.now)) z.requires.0 a.k (2 * a.e) z.requires.3 in
     omega (arith, area_most z.requires.0, z.requires.0.whole, z.requires.5)
 
-add-put-in : tie.Need-overflow_add-e
-add-put-in c =
+pub overflow_add-e : goal.overflow_add-e
+overflow_add-e c =
     let z = c in
     let a = z.args in
     let r : 2 * a.e / 2 < a.w * a.h = place_in (picture a.w a.h (samples_of a.wide a.px.now)) z.requires.0 a.k (2 * a.e) z.requires.3 in
     omega (arith, area_most z.requires.0, z.requires.0.whole, z.requires.5, c.base_of-base.ensures.1)
 
-add-put-in-2 : tie.Need-overflow_add-e-2
-add-put-in-2 c =
+pub overflow_add-e-2 : goal.overflow_add-e-2
+overflow_add-e-2 c =
     let z = c in
     let a = z.args in
     let r : 2 * a.e / 2 < a.w * a.h = place_in (picture a.w a.h (samples_of a.wide a.px.now)) z.requires.0 a.k (2 * a.e) z.requires.3 in
     omega (arith, area_most z.requires.0, z.requires.0.whole, z.requires.5, c.base_of-base.ensures.1)
 
-put-in-requires : tie.Need-put_in-requires
-put-in-requires c κs =
+pub put_in-requires : goal.put_in-requires
+put_in-requires c =
     let z = c in
     let a = z.args in
     let P = picture a.w a.h (samples_of a.wide a.px.now) in
     let n = line_cons P z.requires.0 a.k (2 * a.e) z.requires.3 in
     rw c.follow-n.ensures.2 (omega (arith, pasted_length (layout_of a.wide) a.k (places_of a.inb a.words.now a.bytes.now) a.from (line P a.k (2 * a.e)) z.requires.4, z.requires.4, ap length n.1))
 
-same_length : tie.Need-shape_of-work
-same_length c = search rules
-
-same-length-2 : tie.Need-shape_of-words
-same-length-2 c = search rules
-
-same-length-3 : tie.Need-shape_of-bytes
-same-length-3 c = search rules
-
-returns : tie.Need-returns
+pub returns : goal.returns
 returns c =
     let z = c in
     let a = z.args in
@@ -91,8 +74,3 @@ returns c =
           ∙ flag_first L a.k (2 * a.e) n.0 U a.from (omega (arith, z.requires.4))
           ∙ ap (F true) (sym n.1),
     )
-
-pub trace_line_spec : {M : Type 1} → statement M
-trace_line_spec =
-    tie.close
-    (tie.spec follow-requires base-of-requires cast-put-in mul-put-in add-put-in add-put-in-2 put-in-requires same_length same-length-2 same-length-3 returns)

@@ -2,7 +2,6 @@
 use mathlib.Core.Path.{sym, ap, ◌∙◌}
 use mathlib.Core.List.{◌++◌}
 use Prim.Native.Nat.{◌*◌}
-use borrow.Author.Rules.{rules}
 use lib.ListN.{drop}
 use Rattle.refuse.specs.declared.Verdict.{Verdict}
 use Rattle.matte.specs.Layout.{eight}
@@ -11,14 +10,10 @@ use Rattle.refuse.specs.Refusal.{answer, afterwards}
 use Rattle.refuse.proofs.Rows.{done_answer, refused_answer, done_after, refused_after}
 use Rattle.frame.specs.Frame.{framed}
 use Rattle.frame.proofs.Writes.{framed_list}
-use Rattle.frame.proofs.frame_picture.Statement.{statement}
-use Rattle.frame.proofs.frame_picture.Tie as tie
+use Rattle.frame.proofs.frame_picture.Goals as goal
 
-frame-verdict-requires : tie.Need-frame_verdict-v-requires
-frame-verdict-requires c κs = search rules
-
-returns : tie.Need-returns-then-v-ne0
-returns c =
+pub returns-then-v-ne0 : goal.returns-then-v-ne0
+returns-then-v-ne0 c =
     let v = c.frame_verdict-v in
     let a = c.args in
     let P = picture a.w a.h a.px.now in
@@ -27,19 +22,16 @@ returns c =
       sym (refused_after v.result a.room.now F c.if-v-ne0.true) ∙ ap (λ (z : Verdict). afterwards z a.room.now F) v.ensures.0,
     )
 
-border-median-requires : tie.Need-border_median-m-requires
-border-median-requires c κs =
+pub border_median-m-requires : goal.border_median-m-requires
+border_median-m-requires c =
     let q = c.frame_verdict-v.ensures.1 c.if-v-ne0.false in (q.0, q.1)
 
-frame-rows-requires : tie.Need-frame_rows-requires
-frame-rows-requires c κs =
+pub frame_rows-requires : goal.frame_rows-requires
+frame_rows-requires c =
     c.frame_verdict-v.ensures.1 c.if-v-ne0.false
 
-same_length : tie.Need-shape_of-room
-same_length c = search rules
-
-returns-2 : tie.Need-returns
-returns-2 c =
+pub returns : goal.returns
+returns c =
     let d = c in
     let v = d.frame_verdict-v in
     let a = d.args in
@@ -50,8 +42,3 @@ returns-2 c =
           ∙ sym (done_after v.result a.room.now F d.if-v-ne0.false)
           ∙ ap (λ (z : Verdict). afterwards z a.room.now F) v.ensures.0,
     )
-
-pub frame_picture_spec : {M : Type 1} → statement M
-frame_picture_spec =
-    tie.close
-    (tie.spec frame-verdict-requires returns border-median-requires frame-rows-requires same_length returns-2)

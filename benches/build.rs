@@ -1,4 +1,4 @@
-//! Links the proved library: `rt staticlib host` writes it.
+//! Links the proved library: `./build host` writes it.
 
 fn main() {
     println!("cargo:rerun-if-changed=../target/staticlib/libhost.a");

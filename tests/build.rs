@@ -1,4 +1,4 @@
-//! Links the proved library where the feature `library` asks for it: `rt staticlib host` writes it.
+//! Links the proved library where the feature `library` asks for it: `./build host` writes it.
 
 fn main() {
     println!("cargo:rerun-if-changed=../target/staticlib/libhost.a");

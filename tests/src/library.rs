@@ -85,7 +85,7 @@ impl Calls for Library {
             .stdin(Stdio::piped())
             .stdout(Stdio::piped())
             .spawn()
-            .expect("the listing program is built: rt check listing");
+            .expect("the listing program is built: ./build listing");
         let mut pipe = child.stdin.take().expect("the program has a standard input");
         // Input that is too long is not read to its end, so a broken pipe is no fault.
         if let Err(error) = pipe.write_all(input) {

@@ -1,0 +1,21 @@
+-- `tree::leads::keep` meets its contract. Assumes nothing.
+use mathlib.Core.Path.{◌≡◌, refl, sym, ap, ◌∙◌}
+use mathlib.Core.Bool.{Bool, true, false, cond}
+use Prim.Native.Nat.{ℕ, ◌+◌, ◌-◌, ◌≤◌, ◌<◌}
+use native.Mathlib.Omega.{arith}
+use lib.ListN.{set}
+use borrow.Author.Tests.{le-leb, lt-leb}
+use Rattle.tally.specs.Tally.{one}
+use Rattle.tree.proofs.leads.keep.Goals as goal
+
+pub bounds-places-m : goal.bounds-places-m
+bounds-places-m c =
+    c.requires.0 (le-leb _ _ c.if-u-ge2147483648.true)
+
+pub returns-then-u-ge2147483648 : goal.returns-then-u-ge2147483648
+returns-then-u-ge2147483648 c =
+    rw (le-leb 2147483648 c.args.u c.if-u-ge2147483648.true) (refl, refl)
+
+pub returns : goal.returns
+returns c =
+    rw (lt-leb 2147483648 c.args.u c.if-u-ge2147483648.false) (omega arith, refl)

@@ -59,6 +59,9 @@ pub fn all_zero(s: &[u8]) -> bool
     true
 }
 
+// The most words that a file may count.
+const LIMIT: usize = 16777215;
+
 // Letters, the two zero bytes, the count of words and that of blocks.
 pub fn counts_fit(file: &[u8]) -> bool
     requires { 512 ≤ length file.now }
@@ -72,7 +75,7 @@ pub fn counts_fit(file: &[u8]) -> bool
         return false;
     }
     let n = num4_at(file, 12) as usize;
-    if 16777215 < n {
+    if LIMIT < n {
         return false;
     }
     file.len() / 512 == 1 + blocks_for(n)

@@ -7,7 +7,7 @@ use mathlib.Core.List.{List, [], ◌∷◌, ◌++◌}
 use Prim.Native.Nat.{ℕ, ◌*◌, ◌≤◌}
 use native.Mathlib.Omega.{arith}
 use lib.Dec.{eqb, ltb, leb}
-use lib.ListN.{drop}
+use lib.ListN.{length, drop}
 use borrow.Author.Tests.{ltb-false, leb-true, leb-false, not-false}
 use Rattle.tally.proofs.Test.{by_test}
 use Rattle.matte.specs.Picture.{side_fits}
@@ -118,6 +118,9 @@ code_sides s h q S =
 
 -- ---- the answer
 module _ (s room : List ℕ) (v : Verdict) (e : v ≡ pgm_verdict s room) where
+  pub passed_by : v.number ≡ 0 → Passed s (length room)
+  passed_by z = passed s (length room) (ap (λ (z : Verdict). z.number) (sym e) ∙ z)
+
   unrefused : (v.number ≡ 0 → ⊥) → (pgm_verdict s room).number ≡ 0 → ⊥
   unrefused n z = n (ap (λ (x : Verdict). x.number) e ∙ z)
 

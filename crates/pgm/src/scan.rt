@@ -71,13 +71,19 @@ fn gap_end(s: &[u8], p: usize) -> usize
     i
 }
 
+// The greatest maximum that is read.
+const MOST: usize = 255;
+
+// The greatest value that is told from a greater one.
+const FITS: usize = 65535;
+
 // One digit more, as far as the value matters.
 fn more(v: usize, b: usize) -> usize
     requires { (v ≤ 65535) × (48 ≤ b) × (b ≤ 57) }
     ensures { (result ≡ cap (v * 10 + (b - 48))) × (result ≤ 65535) }
 {
     let next = v * 10 + (b - 48);
-    if next <= 65535 {
+    if next <= FITS {
         return next;
     }
     65535
@@ -178,7 +184,7 @@ pub fn read_head(s: &[u8]) -> Head
     if m.value < 1 {
         return stopped(m.first);
     }
-    if 255 < m.value {
+    if MOST < m.value {
         return stopped(m.first);
     }
     if !is_white(byte_at(s, m.next)) {

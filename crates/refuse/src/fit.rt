@@ -28,6 +28,9 @@ pub fn area(w: usize, h: usize) -> usize
     w * h
 }
 
+// The number after the last level.
+const END: usize = 255;
+
 // Levels are at most 254 and ascend strictly.
 pub fn levels_fit(ks: &[u8]) -> bool
     ensures { result ≡ levels_fit eight ks.now }
@@ -39,7 +42,7 @@ pub fn levels_fit(ks: &[u8]) -> bool
         if k < low {
             return false;
         }
-        if 255 <= k {
+        if END <= k {
             return false;
         }
         low = k + 1;

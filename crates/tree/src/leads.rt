@@ -3,12 +3,15 @@ ghost use Rattle.std.specs.Prelude.{◌≡◌, Bool, true, false, cond, List, �
 ghost use Rattle.tally.specs.Tally.{one, tally};
 ghost use Rattle.tree.specs.Note.{leads_of};
 
+// Words from this number on are flagged.
+const FLAGGED: u32 = 2147483648;
+
 // A flagged word goes to the place m, without its flag. Returns where the next one goes.
 fn keep(u: u32, m: usize, places: &mut [u32]) -> usize
     requires { (leb 2147483648 u ≡ true → m < length places.old) × (m ≤ length places.old) }
     ensures { (result ≡ m + one (leb 2147483648 u)) × (places.new ≡ cond (leb 2147483648 u) (set places.old m (u - 2147483648)) places.old) }
 {
-    if 2147483648 <= u {
+    if FLAGGED <= u {
         places[m] = u - 2147483648;
         return m + 1;
     }

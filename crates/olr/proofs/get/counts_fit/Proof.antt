@@ -31,7 +31,7 @@ num4-at-requires-2 c κs = search rules
 cast-n : tie.Need-overflow_cast-n
 cast-n c = search rules
 
-returns-3 : tie.Need-returns-then-n-gt16777215
+returns-3 : tie.Need-returns-then-n-gt-LIMIT
 returns-3 c =
     go_and _ _ _ (eq-eqb _ _ (sym c.num4_at.ensures ∙ c.if-num4_at-ne827477071.false))
     (go_and _ _ _ (eq-eqb _ _ (sym c.num2_at.ensures.0 ∙ c.if-num2_at-ne0.false))

@@ -16,8 +16,8 @@ sub-next c = omega arith
 add-next : tie.Need-overflow_add-next
 add-next c = search rules
 
-returns : tie.Need-returns-then-next-le65535
-returns c = (sym (cap_small _ c.if-next-le65535.true), c.if-next-le65535.true)
+returns : tie.Need-returns-then-next-le-FITS
+returns c = (sym (cap_small _ c.if-next-le-FITS.true), c.if-next-le-FITS.true)
 
 returns-2 : tie.Need-returns
 returns-2 c = (sym (cap_large (c.args.v * 10 + (c.args.b - 48)) (omega arith)), omega arith)

@@ -118,11 +118,11 @@ stopped-requires-7 c κs = search rules
 returns-7 : tie.Need-returns-then-m-lt1
 returns-7 c = max_low _ _ _ _ _ _ _ (kept c.before.before.before) (all_read c.before.before.before) _ c.if-m-lt1.true c.stopped-then-m-lt1.ensures
 
-stopped-requires-8 : tie.Need-stopped-requires-then-m-gt255
+stopped-requires-8 : tie.Need-stopped-requires-then-m-gt-MOST
 stopped-requires-8 c κs = search rules
 
-returns-8 : tie.Need-returns-then-m-gt255
-returns-8 c = max_high _ _ _ _ _ _ _ (kept c.before.before.before.before.before) (all_read c.before.before.before.before.before) _ c.if-m-lt1.false c.if-m-gt255.true c.stopped-then-m-gt255.ensures
+returns-8 : tie.Need-returns-then-m-gt-MOST
+returns-8 c = max_high _ _ _ _ _ _ _ (kept c.before.before.before.before.before) (all_read c.before.before.before.before.before) _ c.if-m-lt1.false c.if-m-gt-MOST.true c.stopped-then-m-gt-MOST.ensures
 
 byte-at-requires-4 : tie.Need-byte_at-requires-3
 byte-at-requires-4 c κs = search rules
@@ -134,13 +134,13 @@ stopped-requires-9 : tie.Need-stopped-requires-then-not-is_white
 stopped-requires-9 c κs = search rules
 
 returns-9 : tie.Need-returns-then-not-is_white
-returns-9 c = no_white _ _ _ _ _ _ _ (kept c.before.before.before.before.before.before.before.before) (all_read c.before.before.before.before.before.before.before.before) c.if-m-lt1.false c.if-m-gt255.false _ (ap is_white (sym c.byte_at-3.ensures) ∙ sym c.is_white.ensures ∙ not-true _ c.if-not-is_white.true-raw) c.stopped-then-not-is_white.ensures
+returns-9 c = no_white _ _ _ _ _ _ _ (kept c.before.before.before.before.before.before.before.before) (all_read c.before.before.before.before.before.before.before.before) c.if-m-lt1.false c.if-m-gt-MOST.false _ (ap is_white (sym c.byte_at-3.ensures) ∙ sym c.is_white.ensures ∙ not-true _ c.if-not-is_white.true-raw) c.stopped-then-not-is_white.ensures
 
 add-t9 : tie.Need-overflow_add-result
 add-t9 c = omega (arith, c.well_formed, byte_inside is_white (S c.before.before.before.before.before.before.before.before.before.before.before.before.before.before.before.before.before.before.before.before.before.before.before.before.before.before) c.field_at-m.result.next refl (ap is_white (sym c.byte_at-3.ensures) ∙ sym c.is_white.ensures ∙ not-false _ c.if-not-is_white.false-raw))
 
 returns-10 : tie.Need-returns
-returns-10 c = let g = c.field_at-w.result in let k = c.field_at-h.result in let u = c.field_at-m.result in let t = whole (S c.before.before.before.before.before.before.before.before.before.before.before.before.before.before.before.before.before.before.before.before.before.before.before.before.before.before) _ _ _ _ _ _ (kept c.before.before.before.before.before.before.before.before) (all_read c.before.before.before.before.before.before.before.before) c.if-m-lt1.false c.if-m-gt255.false _ _ (ap (λ (z : Number). z.value) c.field_at-w.ensures.0) (ap (λ (z : Number). z.value) c.field_at-h.ensures.0) (ap is_white (sym c.byte_at-3.ensures) ∙ sym c.is_white.ensures ∙ not-false _ c.if-not-is_white.false-raw) in (ap (λ (z : ℕ). record { ok = true; plain = eqb z 50; width = g.value; height = k.value; maximum = u.value; at = u.next + 1 }) c.byte_at-f.ensures ∙ t.0, t.1)
+returns-10 c = let g = c.field_at-w.result in let k = c.field_at-h.result in let u = c.field_at-m.result in let t = whole (S c.before.before.before.before.before.before.before.before.before.before.before.before.before.before.before.before.before.before.before.before.before.before.before.before.before.before) _ _ _ _ _ _ (kept c.before.before.before.before.before.before.before.before) (all_read c.before.before.before.before.before.before.before.before) c.if-m-lt1.false c.if-m-gt-MOST.false _ _ (ap (λ (z : Number). z.value) c.field_at-w.ensures.0) (ap (λ (z : Number). z.value) c.field_at-h.ensures.0) (ap is_white (sym c.byte_at-3.ensures) ∙ sym c.is_white.ensures ∙ not-false _ c.if-not-is_white.false-raw) in (ap (λ (z : ℕ). record { ok = true; plain = eqb z 50; width = g.value; height = k.value; maximum = u.value; at = u.next + 1 }) c.byte_at-f.ensures ∙ t.0, t.1)
 
 pub read_head_spec : {M : Type 1} → statement M
 read_head_spec =

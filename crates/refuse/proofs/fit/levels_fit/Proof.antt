@@ -29,9 +29,9 @@ returns : tie.Need-returns-then-k-low invariant-loop decreases-loop
 returns c =
     sym (c.loop-i.invariant.1 ∙ too_low _ _ _ _ c.loop-i-test.true c.if-k-low.true)
 
-returns-2 : tie.Need-returns-then-k-ge255 invariant-loop decreases-loop
+returns-2 : tie.Need-returns-then-k-ge-END invariant-loop decreases-loop
 returns-2 c =
-    sym (c.loop-i.invariant.1 ∙ too_high _ _ _ _ c.loop-i-test.true c.if-k-low.false c.if-k-ge255.true)
+    sym (c.loop-i.invariant.1 ∙ too_high _ _ _ _ c.loop-i-test.true c.if-k-low.false c.if-k-ge-END.true)
 
 add_low : tie.Need-overflow_add-low invariant-loop decreases-loop
 add_low c = search rules
@@ -44,7 +44,7 @@ loop-less c = search rules
 
 loop-again : tie.Need-loop-i-preserved invariant-loop decreases-loop
 loop-again c =
-    (omega arith, c.loop-i.invariant.1 ∙ go_on _ _ _ _ c.loop-i-test.true c.if-k-low.false c.if-k-ge255.false)
+    (omega arith, c.loop-i.invariant.1 ∙ go_on _ _ _ _ c.loop-i-test.true c.if-k-low.false c.if-k-ge-END.false)
 
 returns-3 : tie.Need-returns invariant-loop decreases-loop
 returns-3 c =

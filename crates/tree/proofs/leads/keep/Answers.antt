@@ -10,12 +10,12 @@ use Rattle.tree.proofs.leads.keep.Goals as goal
 
 pub bounds-places-m : goal.bounds-places-m
 bounds-places-m c =
-    c.requires.0 (le-leb _ _ c.if-u-ge2147483648.true)
+    c.requires.0 (le-leb _ _ c.if-u-ge-FLAGGED.true)
 
-pub returns-then-u-ge2147483648 : goal.returns-then-u-ge2147483648
-returns-then-u-ge2147483648 c =
-    rw (le-leb 2147483648 c.args.u c.if-u-ge2147483648.true) (refl, refl)
+pub returns-then-u-ge-FLAGGED : goal.returns-then-u-ge-FLAGGED
+returns-then-u-ge-FLAGGED c =
+    rw (le-leb 2147483648 c.args.u c.if-u-ge-FLAGGED.true) (refl, refl)
 
 pub returns : goal.returns
 returns c =
-    rw (lt-leb 2147483648 c.args.u c.if-u-ge2147483648.false) (omega arith, refl)
+    rw (lt-leb 2147483648 c.args.u c.if-u-ge-FLAGGED.false) (omega arith, refl)

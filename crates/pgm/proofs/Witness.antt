@@ -1,6 +1,6 @@
 -- Short files worked out: what an edit of the definitions makes false shows here. Assumes nothing.
 -- Definitions: `told` number, place, sides and maximum, and the room afterwards, which had six bytes 77.
--- Main laws: `files_worked` comments, CR LF, leading zeros, an unended comment, an unfit maximum, the one white byte, a side of 30 digits, 23 and 24 in reading order; `behind_worked` a byte after the last sample.
+-- Main laws: `mark_worked` a comment right after the maximum; `order_worked` 23 before 24; `files_worked` comments, CR LF, leading zeros, an unended comment, an unfit maximum, the one white byte, a side of 30 digits, 23 and 24 in reading order; `behind_worked` a byte after the last sample.
 use mathlib.Core.Path.{◌≡◌, refl}
 use mathlib.Core.List.{List, [], ◌∷◌, map}
 use Prim.Native.Nat.{ℕ}
@@ -12,6 +12,14 @@ told s =
     let room : List ℕ = 77 ∷ 77 ∷ 77 ∷ 77 ∷ 77 ∷ 77 ∷ [] in
     let a = pgm_answer s room in
     a.answer.number ∷ a.answer.place ∷ a.width ∷ a.height ∷ a.maximum ∷ pgm_room s room
+
+pub mark_worked : told (80 ∷ 53 ∷ 32 ∷ 50 ∷ 32 ∷ 50 ∷ 32 ∷ 50 ∷ 53 ∷ 53 ∷ 35 ∷ 10 ∷ 1 ∷ 1 ∷ 1 ∷ 1 ∷ []) ≡ 22 ∷ 10 ∷ 0 ∷ 0 ∷ 0 ∷ 77 ∷ 77 ∷ 77 ∷ 77 ∷ 77 ∷ 77 ∷ []
+unfolding gap_from white_from number_from fields_from headed head_of samples_from raster_from
+mark_worked = refl
+
+pub order_worked : told (80 ∷ 50 ∷ 32 ∷ 50 ∷ 32 ∷ 50 ∷ 32 ∷ 57 ∷ 32 ∷ 49 ∷ 32 ∷ 49 ∷ 48 ∷ []) ≡ 23 ∷ 11 ∷ 0 ∷ 0 ∷ 0 ∷ 77 ∷ 77 ∷ 77 ∷ 77 ∷ 77 ∷ 77 ∷ []
+unfolding gap_from white_from number_from fields_from headed head_of samples_from raster_from
+order_worked = refl
 
 pub files_worked : map told
     ((80 ∷ 50 ∷ 35 ∷ 99 ∷ 10 ∷ 35 ∷ 32 ∷ 116 ∷ 119 ∷ 111 ∷ 13 ∷ 10 ∷ 51 ∷ 9 ∷ 50 ∷ 35 ∷ 120 ∷ 10 ∷ 13 ∷ 32 ∷ 57 ∷ 10 ∷ 49 ∷ 32 ∷ 50 ∷ 9 ∷ 51 ∷ 13 ∷ 10 ∷ 52 ∷ 32 ∷ 53 ∷ 32 ∷ 57 ∷ [])

@@ -1,5 +1,5 @@
 #!/usr/bin/env python3
-"""Spells this repository's own definitions and lemmas in snake case, after /opt/rattle/port/port.py has run.
+"""Spells this repository's own definitions and lemmas in snake case, after the kit's port.py has run.
 
     tools/respell.py          respells, in crates/, README.md and docs/
     tools/respell.py --look   writes nothing, and lists where two names of a file would fall together

@@ -8,7 +8,7 @@ ghost use Rattle.edgel.specs.Edgel.{edgel};
 ghost use Rattle.edgel.specs.Word.{word, code_of, level_of, flagged};
 
 // The four headings, in the order in which each is one place left of the one before.
-#[derive(Clone, Copy)]
+#[derive(Clone, Copy, Debug, PartialEq, Eq)]
 pub enum Heading {
     South,
     East,
@@ -74,41 +74,41 @@ pub fn first_word(code: u32, k: u8) -> u32
     requires { code < 8388608 }
     ensures { (result ≡ word eight code k true) × (2147483648 ≤ result) }
 {
-    code + (k as u32) * 8388608 + 2147483648
+    plain_word(code, k) + 2147483648
 }
 
 // The code of a word.
 pub fn code_of(u: u32) -> u32
     ensures { (result ≡ code_of eight u) × (result < 8388608) }
 {
-    u % 8388608
+    code_in(false, u)
 }
 
 // The level of a word.
 pub fn level_of(u: u32) -> u8
     ensures { result ≡ level_of eight u }
 {
-    (u / 8388608 % 256) as u8
+    level_in(false, u) as u8
 }
 
 // The code of a word of either width.
+// The width is a value here, as in layout_of: nothing that has it as a type calls for it.
 pub fn code_in(wide: bool, u: u32) -> u32
     ensures { (result ≡ code_of (layout_of wide) u) × (result < (layout_of wide).codes) }
 {
-    if wide {
-        return u % 2097152;
-    }
-    u % 8388608
+    u % if wide { 2097152 } else { 8388608 }
 }
 
 // The level of a word of either width.
+// A value here too, as for code_in.
 pub fn level_in(wide: bool, u: u32) -> u16
     ensures { (result ≡ level_of (layout_of wide) u) × (result < (layout_of wide).levels) }
 {
     if wide {
-        return (u / 2097152 % 1024) as u16;
+        (u / 2097152 % 1024) as u16
+    } else {
+        (u / 8388608 % 256) as u16
     }
-    (u / 8388608 % 256) as u16
 }
 
 // The word is the first of its line.

@@ -1,13 +1,16 @@
 -- A test that every number below n passes. Assumes nothing.
 -- Main laws: `every_at` each of them passes; `every_from` back; `every_same`; `every_more`, `every_next` one number more; `every_none` of no number; `every_not` one that does not pass
---   refutes it; `every_others` a count of those that do not pass stays 0 exactly as long as all pass.
+--   refutes it; `every_others` a count of those that do not pass stays 0 exactly as long as all pass,
+--   `byte_most` a byte for yes or no is at most 1,
+--   `every_byte` the same where each of them counts as its byte.
 use mathlib.Core.Path.{◌≡◌, refl, sym, ap, ◌∙◌}
-use mathlib.Core.Bool.{Bool, true, false, ◌&&◌}
-use Prim.Native.Nat.{ℕ, zero, suc, ◌+◌, ◌-◌, ◌<◌}
+use mathlib.Core.Bool.{Bool, true, false, not, ◌&&◌}
+use Prim.Native.Nat.{ℕ, zero, suc, ◌+◌, ◌-◌, ◌≤◌, ◌<◌}
 use native.Mathlib.Numerals.{add-one}
 use native.Mathlib.Omega.{arith}
 use lib.Dec.{eqb}
 use borrow.Author.Tests.{eqb-true, eqb-false, eq-eqb}
+use mir.Val.{bool_byte}
 use Rattle.tally.specs.Tally.{one, every}
 use Rattle.tally.proofs.Test.{by_test, no, iff, and_1, and_2, both, one_pos}
 
@@ -54,3 +57,14 @@ every_others p n j x e f =
     let z : n ≡ 0 = eqb-true n 0 (e ∙ every_from p j (λ i l. every_at p (j + 1) h i (omega arith))) in
     let y : x ≡ 1 = f ∙ ap one (every_at p (j + 1) h j (omega arith)) in
     eq-eqb (n + (1 - x)) 0 (omega arith))
+
+byte_not : (b : Bool) → bool_byte (not b) ≡ 1 - one b
+byte_not true = refl
+byte_not false = refl
+
+pub byte_most : (b : Bool) → bool_byte b ≤ 1
+byte_most true = omega arith
+byte_most false = omega arith
+
+pub every_byte : (p : ℕ → Bool) (n j : ℕ) → eqb n 0 ≡ every p j → eqb (n + bool_byte (not (p j))) 0 ≡ every p (j + 1)
+every_byte p n j e = ap (λ (x : ℕ). eqb (n + x) 0) (byte_not (p j)) ∙ every_others p n j (one (p j)) e refl

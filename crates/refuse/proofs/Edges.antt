@@ -12,7 +12,7 @@ use Rattle.tally.specs.Tally.{every}
 use Rattle.tally.proofs.Test.{by_test, no, both}
 use Rattle.tally.proofs.First.{from_le, from_before, from_passes}
 use Rattle.tally.proofs.Every.{every_from, every_not}
-use Rattle.refuse.specs.declared.Verdict.{Verdict}
+use Rattle.refuse.specs.Refusal.{Verdict}
 use Rattle.matte.specs.Picture.{Picture, size, at, on_border, border_fits}
 use Rattle.refuse.specs.Refusal.{Row, row_at, verdict}
 use Rattle.refuse.specs.Hot.{edge, is_hot, hot, border_rows}

@@ -1,15 +1,21 @@
 -- Going through the rows of a call's refusals. Assumes nothing.
--- Main laws: `given` a row that is given decides the verdict; `passed` one that is not is passed over; `unfit`, `fit` the same for a row that asks for a test to hold; `clean`, `clean_fit` where the verdict is 0 no row is given;
+-- Main laws: `given` a row that is given decides the verdict; `passed` one that is not is passed over; `unfit`, `fit` the same for a row that asks for a test to hold; `silent` no refusal is the verdict 0, `refuses` a refusal is not, `handed_on` the verdict of one that `?` hands on; `clean`, `clean_fit` where the verdict is 0 no row is given;
 --   `numbered` no row bears the number 0; `stopped`, `gone_on` the verdict of rows put behind others, `parted` what a verdict of 0 says of both; `done_answer`, `refused_answer`, `done_after`, `refused_after` what a verdict makes of the answer and of lent memory.
 use mathlib.Core.Path.{◌≡◌, refl, sym, ap, ◌∙◌}
 use mathlib.Core.Bool.{Bool, true, false, not, ◌&&◌, cond}
 use mathlib.Core.List.{List, [], ◌∷◌, ◌++◌}
 use Prim.Native.Nat.{ℕ}
 use lib.Dec.{eqb}
+use native.Mathlib.Omega.{arith}
 use borrow.Author.Tests.{eq-eqb, ne_eqb, eqb-false, not-true, not-false}
 use Rattle.tally.proofs.Test.{by_test, and_1, and_2}
 use Rattle.refuse.specs.declared.Answer.{Answer}
-use Rattle.refuse.specs.declared.Verdict.{Verdict}
+use Rattle.refuse.specs.declared.reason.Reason.{Reason}
+use Rattle.refuse.specs.declared.reason.Reason.TheVariants.{Sides, Samples, Levels, TopBorder, WorkBytes, WordPlaces, TreePlaces, UnfitWord, Room, NotCrossed, NotThere, FileLength, BlockCheck, FileLayout, FileRoom, ManyWords, BottomBorder, LeftBorder, RightBorder, PgmHeader, AboveMaximum, NoSample}
+use Rattle.refuse.specs.declared.reason.Refusal.{Refusal}
+use Rattle.std.specs.Prelude.{Result, Ok, Err, IsErrAnd}
+use Rattle.refuse.specs.Told.{number_of, verdict_of}
+use Rattle.refuse.specs.Refusal.{Verdict}
 use Rattle.refuse.specs.Refusal.{Row, row, verdict, answer, afterwards}
 
 pub given : (r : Row) (rs : List Row) → r.given ≡ true → verdict (r ∷ rs) ≡ record { number = r.number; place = r.place }
@@ -23,6 +29,43 @@ unfit n b rs e = given (row n (not b)) rs (ap not e)
 
 pub fit : (n : ℕ) (b : Bool) (rs : List Row) → b ≡ true → verdict (row n (not b) ∷ rs) ≡ verdict rs
 fit n b rs e = passed (row n (not b)) rs (ap not e)
+
+-- what a Result without a refusal says of its rows
+pub silent : {v : Verdict} → record { number = 0; place = 0 } ≡ v → v.number ≡ 0
+silent e = ap (λ (u : Verdict). u.number) (sym e)
+
+-- and one with a refusal
+not_nought : (r : Reason) → number_of r ≡ 0 → ⊥
+not_nought Sides e = absurd (omega arith)
+not_nought Samples e = absurd (omega arith)
+not_nought Levels e = absurd (omega arith)
+not_nought TopBorder e = absurd (omega arith)
+not_nought WorkBytes e = absurd (omega arith)
+not_nought WordPlaces e = absurd (omega arith)
+not_nought TreePlaces e = absurd (omega arith)
+not_nought UnfitWord e = absurd (omega arith)
+not_nought Room e = absurd (omega arith)
+not_nought NotCrossed e = absurd (omega arith)
+not_nought NotThere e = absurd (omega arith)
+not_nought FileLength e = absurd (omega arith)
+not_nought BlockCheck e = absurd (omega arith)
+not_nought FileLayout e = absurd (omega arith)
+not_nought FileRoom e = absurd (omega arith)
+not_nought ManyWords e = absurd (omega arith)
+not_nought BottomBorder e = absurd (omega arith)
+not_nought LeftBorder e = absurd (omega arith)
+not_nought RightBorder e = absurd (omega arith)
+not_nought PgmHeader e = absurd (omega arith)
+not_nought AboveMaximum e = absurd (omega arith)
+not_nought NoSample e = absurd (omega arith)
+
+pub refuses : (r : Refusal) → number_of r.reason ≡ 0 → ⊥
+refuses r e = not_nought r.reason e
+
+-- what `?` hands on
+pub handed_on : {A : Type 0} (r : Result A Refusal) (e : Refusal) → IsErrAnd r (λ x. x ≡ e) → verdict_of r ≡ record { number = number_of e.reason; place = e.place }
+handed_on (Ok x) e n = absurd n
+handed_on (Err x) e n = ap (λ (y : Refusal). record { number = number_of y.reason; place = y.place }) n
 
 -- no row of a call that is done is given
 pub clean : (r : Row) (rs : List Row) → (r.number ≡ 0 → ⊥) → (verdict (r ∷ rs)).number ≡ 0 → (r.given ≡ false) × ((verdict rs).number ≡ 0)

@@ -1,4 +1,5 @@
 pub mod Refusal
+pub mod Told
 pub mod Hot
 pub mod Shape
 pub mod Ends

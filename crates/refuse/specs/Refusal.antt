@@ -1,11 +1,15 @@
 -- Refusals by their order, and what a call answers and leaves in lent memory. Assumes nothing.
--- Definitions: `Row` a row of the paper's table: its number, whether it is given, its place; `row`, `row_at` make one; `verdict` the first row that is given; `answer` the call's answer;
+-- Definitions: `Row` a row of the paper's table: its number, whether it is given, its place; `row`, `row_at` make one; `Verdict` a number and a place, `verdict` those of the first row that is given; `answer` the call's answer;
 --   `afterwards` what lent memory holds; `sides_row`, `samples_row`, `levels_row`, `work_row`, `words_row`, `room_row` the rows 1 2 3 5 6 9.
 use Rattle.std.specs.Prelude.{Bool, true, false, not, ◌&&◌, cond, List, [], ◌∷◌, ℕ, ◌*◌, eqb, ltb, length}
 use Rattle.refuse.specs.declared.Answer.{Answer}
-use Rattle.refuse.specs.declared.Verdict.{Verdict}
 use Rattle.matte.specs.Layout.{Layout}
 use Rattle.matte.specs.Picture.{Picture, side_fits, levels_fit, samples_fit, size}
+
+-- the first refusal that applies, by its number, with its place; 0 and 0 with none (01, Numbers for a refused call)
+pub record Verdict : Type 0 where
+  pub number : ℕ
+  pub place : ℕ
 
 -- one row of the table: its number is given exactly when `given`, with `place` (01, Numbers for a refused call)
 pub record Row : Type 0 where

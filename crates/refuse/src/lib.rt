@@ -3,18 +3,23 @@
 
 mod fit;
 mod hot;
+mod reason;
+mod size;
 
-ghost use Rattle.std.specs.Prelude.{◌≡◌, [], ◌∷◌, ◌*◌, length};
+ghost use Rattle.std.specs.Prelude.{◌≡◌, [], ◌∷◌, ◌*◌, length, IfOk};
 ghost use Rattle.matte.specs.Layout.{eight};
 ghost use Rattle.matte.specs.Picture.{picture};
 ghost use Rattle.refuse.specs.Refusal.{row_at, verdict, answer, sides_row};
+ghost use Rattle.refuse.specs.Told.{number_of, verdict_of};
 ghost use Rattle.refuse.specs.Hot.{border_rows};
-ghost use Rattle.refuse.specs.Shape.{Sides, shape_rows, level_rows, ground_rows, size_rows};
+ghost use Rattle.refuse.specs.Shape.{shape_rows, level_rows, ground_rows, size_rows};
 
-pub use fit::{area, levels_fit, sides_fit};
+pub use fit::{levels_fit, sides_fit};
 use hot::{edge_of, hot_at};
+pub use reason::{Reason, Refusal};
+pub use size::Size;
 
-// What a call answers: the refusal's number (0 is done) and place, and the words and lines handed over.
+// What a call answers: the refusal's number (0 is done) and place, and the words and lines handed over. Numbers, since C reads the record as it stands.
 #[repr(C)]
 #[derive(Clone, Copy)]
 pub struct Answer {
@@ -24,114 +29,100 @@ pub struct Answer {
     pub lines: usize,
 }
 
-// The first refusal that applies, with its place; 0 and 0 with none.
-#[derive(Clone, Copy)]
-pub struct Verdict {
-    pub number: u32,
-    pub place: usize,
-}
-
-// The verdict of one row.
-pub fn row_verdict(number: u32, given: bool, place: usize) -> Verdict
-    ensures { result ≡ verdict (row_at number given place ∷ []) }
-{
-    if given {
-        return Verdict {
-            number: number,
-            place: place,
-        };
+impl Answer {
+    // The answer of a call that is done, and hands these words and lines over.
+    pub fn done(words: usize, lines: usize) -> Self
+        ensures { result ≡ record { number = 0; place = 0; words = words; lines = lines } }
+    {
+        Answer {
+            number: 0,
+            place: 0,
+            words,
+            lines,
+        }
     }
-    Verdict {
-        number: 0,
-        place: 0,
-    }
-}
 
-// The answer of a call with this verdict, and with these words and lines where it is done.
-pub fn answered(v: Verdict, words: usize, lines: usize) -> Answer
-    ensures { result ≡ answer v words lines }
-{
-    if v.number != 0 {
-        return Answer {
-            number: v.number,
-            place: v.place,
+    // The answer of a call that is refused.
+    pub fn refused(r: Refusal) -> Self
+        ensures { result ≡ record { number = number_of r.reason; place = r.place; words = 0; lines = 0 } }
+    {
+        Answer {
+            number: r.reason.number(),
+            place: r.place,
             words: 0,
             lines: 0,
-        };
+        }
     }
-    Answer {
-        number: 0,
-        place: 0,
-        words: words,
-        lines: lines,
+}
+
+// Refused for this reason, if the row is given.
+pub fn row_verdict(reason: Reason, given: bool, place: usize) -> Result<(), Refusal>
+    ensures { verdict_of result ≡ verdict (row_at (number_of reason) given place ∷ []) }
+{
+    if given {
+        return Err(Refusal { reason, place });
     }
+    Ok(())
 }
 
 // 1.
-pub fn sides_verdict(w: usize, h: usize) -> Verdict
-    ensures { result ≡ verdict (sides_row w h ∷ []) }
+pub fn sides_verdict(w: usize, h: usize) -> Result<Size, Refusal>
+    ensures { (verdict_of result ≡ verdict (sides_row w h ∷ [])) × IfOk result (λ s. (s.width ≡ w) × (s.height ≡ h)) }
 {
-    row_verdict(1, !sides_fit(w, h), 0)
+    row_verdict(Reason::Sides, !sides_fit(w, h), 0)?;
+    Ok(Size {
+        width: w,
+        height: h,
+    })
 }
 
 // 1 2.
-pub fn shape_verdict(w: usize, h: usize, px: &[u8]) -> Verdict
-    ensures { result ≡ verdict (shape_rows (picture w h px.now)) }
+pub fn shape_verdict(w: usize, h: usize, px: &[u8]) -> Result<Size, Refusal>
+    ensures { (verdict_of result ≡ verdict (shape_rows (picture w h px.now))) × IfOk result (λ s. (s.width ≡ w) × (s.height ≡ h) × (length px.now ≡ w * h)) }
 {
-    let v = sides_verdict(w, h);
-    if v.number != 0 {
-        return v;
-    }
-    row_verdict(2, px.len() != area(w, h), 0)
+    let size = sides_verdict(w, h)?;
+    row_verdict(Reason::Samples, px.len() != size.area(), 0)?;
+    Ok(size)
 }
 
 // 1 2 3.
-pub fn level_verdict(w: usize, h: usize, px: &[u8], ks: &[u8]) -> Verdict
-    ensures { result ≡ verdict (level_rows eight (picture w h px.now) ks.now) }
+pub fn level_verdict(w: usize, h: usize, px: &[u8], ks: &[u8]) -> Result<Size, Refusal>
+    ensures { (verdict_of result ≡ verdict (level_rows eight (picture w h px.now) ks.now)) × IfOk result (λ s. (s.width ≡ w) × (s.height ≡ h) × (length px.now ≡ w * h)) }
 {
-    let v = shape_verdict(w, h, px);
-    if v.number != 0 {
-        return v;
-    }
-    row_verdict(3, !levels_fit(ks), 0)
+    let size = shape_verdict(w, h, px)?;
+    row_verdict(Reason::Levels, !levels_fit(ks), 0)?;
+    Ok(size)
 }
 
 // 4 17 18 19, of a picture that none of 1 and 2 is given for.
-fn border_verdict(w: usize, h: usize, px: &[u8]) -> Verdict
-    requires { (Sides w h) × (length px.now ≡ w * h) }
-    ensures { result ≡ verdict (border_rows (picture w h px.now)) }
+fn border_verdict(size: Size, px: &[u8]) -> Result<(), Refusal>
+    requires { length px.now ≡ size.width * size.height }
+    ensures { verdict_of result ≡ verdict (border_rows (picture size.width size.height px.now)) }
 {
-    let i = hot_at(w, h, px);
+    let i = hot_at(size, px);
     if i < px.len() {
-        return Verdict {
-            number: edge_of(w, h, i),
+        return Err(Refusal {
+            reason: edge_of(size, i),
             place: i,
-        };
+        });
     }
-    Verdict {
-        number: 0,
-        place: 0,
-    }
+    Ok(())
 }
 
 // 1 2 3 4 17 18 19.
-pub fn ground_verdict(w: usize, h: usize, px: &[u8], ks: &[u8]) -> Verdict
-    ensures { result ≡ verdict (ground_rows eight (picture w h px.now) ks.now) }
+pub fn ground_verdict(w: usize, h: usize, px: &[u8], ks: &[u8]) -> Result<Size, Refusal>
+    ensures { (verdict_of result ≡ verdict (ground_rows eight (picture w h px.now) ks.now)) × IfOk result (λ s. (s.width ≡ w) × (s.height ≡ h) × (length px.now ≡ w * h)) }
 {
-    let v = level_verdict(w, h, px, ks);
-    if v.number != 0 {
-        return v;
-    }
-    border_verdict(w, h, px)
+    let size = level_verdict(w, h, px, ks)?;
+    border_verdict(size, px)?;
+    Ok(size)
 }
 
 // 1 3.
-pub fn size_verdict(w: usize, h: usize, ks: &[u8]) -> Verdict
-    ensures { result ≡ verdict (size_rows eight w h ks.now) }
+pub fn size_verdict(w: usize, h: usize, ks: &[u8]) -> Result<Size, Refusal>
+    ensures { (verdict_of result ≡ verdict (size_rows eight w h ks.now)) × IfOk result (λ s. (s.width ≡ w) × (s.height ≡ h)) }
 {
-    let v = sides_verdict(w, h);
-    if v.number != 0 {
-        return v;
-    }
-    row_verdict(3, !levels_fit(ks), 0)
+    let size = sides_verdict(w, h)?;
+    row_verdict(Reason::Levels, !levels_fit(ks), 0)?;
+    Ok(size)
 }

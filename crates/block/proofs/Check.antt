@@ -1,26 +1,27 @@
 -- The check, one byte at a time, and which payloads and blocks have different checks. Assumes nothing.
--- Main laws: `stirred_more`, `stirred_next` one byte more, `stirred_all`, `stirred_end` no byte left; `stir_start`, `stir_byte` each step is injective in the sum and in the byte; `start_told` equal payloads with different starts
+-- Main laws: `stirred_next` one byte more, `stirred_end` no byte left, `stirred_fold` all bytes in a fold; `stir_start`, `stir_byte` each step is injective in the sum and in the byte; `start_told` equal payloads with different starts
 --   have different sums; `byte_told` payloads that differ in one byte have, `set_told` the same for a byte stored; `number_told` equal payloads in blocks of different number have different checks;
 --   `check_below` a check has 32 bits.
-use Rattle.std.proofs.Common.{◌≡◌, ℕ, suc, ◌+◌, ◌*◌, ◌/◌, ◌%◌, ◌<◌, List, [], ◌∷◌, ◌++◌, length, get_or, take, drop, set, sym, ap, ◌∙◌, add-one, arith, drop-cons}
-use lib.Seq.{drop-length, set_split, split_at}
+use Rattle.std.proofs.Common.{◌≡◌, ℕ, suc, ◌+◌, ◌*◌, ◌/◌, ◌%◌, ◌<◌, List, [], ◌∷◌, ◌++◌, length, get_or, take, drop, set, sym, ap, ◌∙◌, refl, arith}
+use lib.Seq.{set_split, split_at}
+use Rattle.std.specs.List.{fold}
 use Rattle.block.specs.Block.{rotate, stir, stirred, check}
 
-module _ (l : List ℕ) (s i : ℕ) where
-  pub stirred_more : i < length l → stirred s (drop i l) ≡ stirred (stir s (get_or l i 0)) (drop (i + 1) l)
+-- a sum c that is what is left to be stirred into s: one byte more, and no byte left
+module _ (c s : ℕ) (l : List ℕ) (e : c ≡ stirred s l) where
+  pub stirred_next : (b t : ℕ) (rest : List ℕ) → l ≡ b ∷ rest → t ≡ stir s b → c ≡ stirred t rest
   unfolding stirred
-  stirred_more h = rw (add-one i, drop-cons l i 0 h)
+  stirred_next b t rest f g = e ∙ ap (stirred s) f ∙ ap (λ (z : ℕ). stirred z rest) (sym g)
 
-  pub stirred_all : i ≡ length l → stirred s (drop i l) ≡ s
+  pub stirred_end : l ≡ [] → s ≡ c
   unfolding stirred
-  stirred_all e = rw (e, drop-length l)
+  stirred_end f = sym (e ∙ ap (stirred s) f)
 
-  -- the same, of a sum c that is what is left to be stirred into s
-  pub stirred_next : (c t : ℕ) → i < length l → c ≡ stirred s (drop i l) → t ≡ stir s (get_or l i 0) → c ≡ stirred t (drop (i + 1) l)
-  stirred_next c t h e f = e ∙ stirred_more h ∙ ap (λ (z : ℕ). stirred z (drop (i + 1) l)) (sym f)
-
-  pub stirred_end : (c : ℕ) → i ≡ length l → c ≡ stirred s (drop i l) → s ≡ c
-  stirred_end c e f = sym (f ∙ stirred_all e)
+-- the sum as a fold
+pub stirred_fold : (s : ℕ) (l : List ℕ) → fold stir s l ≡ stirred s l
+unfolding stirred
+stirred_fold s [] = refl
+stirred_fold s (b ∷ l) = stirred_fold (stir s b) l
 
 -- the low 31 bits move up, the highest to the bottom
 pub turned : (s : ℕ) → s < 4294967296 → rotate s ≡ 2 * (s % 2147483648) + s / 2147483648

@@ -1,10 +1,10 @@
 -- Twos have no part in the greatest common divisor of an odd number and another. Assumes nothing.
 -- Definitions: `Odd` what is left of a number without its twos.
--- Main laws: `gcd_half` the other number may be halved; `odd_part` the shift by its trailing zeros gives what is left; `turn_odd`, `turn_keeps`,
---   `turn_less`, `turn_fits` a turn of the loop keeps the gcd, an odd number and the width, and makes the sum less.
+-- Main laws: `gcd_half` the other number may be halved; `odd_part` the shift by its trailing zeros gives what is left; `turn_odd`, `turn_keeps`
+--   a turn of the loop keeps an odd number and the gcd.
 use mathlib.Core.Path.{◌≡◌, sym, ap, ap₂, subst, ◌∙◌}
 use Prim.Native.Nat.{ℕ, zero, suc, ◌+◌, ◌*◌, ◌/◌, ◌%◌, ◌^◌, ◌<◌, ◌∣◌, min}
-use native.Mathlib.Nat.{mul_comm, mul-add, mul-one, mul_left_comm, pow-suc, pow-succ', div-one, div-le_self, div-div-eq-div-mul, dvd_trans, dvd_of_mod-eq-zero, mod-eq-zero_of_dvd, dvd-mul_left, dvd-mul_left_of_dvd, dvd-add_iff_right}
+use native.Mathlib.Nat.{mul_comm, mul-add, mul-one, mul_left_comm, pow-suc, pow-succ', div-one, div-div-eq-div-mul, dvd_trans, dvd_of_mod-eq-zero, mod-eq-zero_of_dvd, dvd-mul_left, dvd-mul_left_of_dvd, dvd-add_iff_right}
 use native.Mathlib.Omega.{arith}
 use lib.Dec.{eqb, ltb}
 use lib.Count.{count_trailing_zeros}
@@ -80,9 +80,3 @@ module _ (k x y t d s : ℕ) (o : x % 2 ≡ 1) (r : Odd k y t) (ed : d ≡ apart
 
   pub turn_keeps : gcd s d ≡ gcd x y
   turn_keeps = ap₂ gcd es ed ∙ sym (gcd_less x (y / 2 ^ t)) ∙ sym (r.keeps x o)
-
-  pub turn_less : 0 < y → s + d < x + y
-  turn_less p = omega (arith, div-le_self y (2 ^ t))
-
-  pub turn_fits : (m : ℕ) → x < m → y < m → (s < m) × (d < m)
-  turn_fits m p q = (omega (arith, div-le_self y (2 ^ t)), omega (arith, div-le_self y (2 ^ t)))

@@ -1,7 +1,7 @@
 // Fractions in lowest terms.
 #![tactic(auto)]
 
-ghost use Rattle.std.specs.Prelude.{◌≡◌, ◌%◌, min};
+ghost use Rattle.std.specs.Prelude.{◌≡◌, ◌%◌};
 ghost use Rattle.tally.specs.Tally.{apart};
 ghost use Rattle.ratio.specs.Lowest.{gcd, lowest};
 
@@ -16,20 +16,7 @@ pub struct Fraction {
 pub fn distance(a: u32, b: u32) -> u32
     ensures { result ≡ apart a b }
 {
-    if a < b {
-        return b - a;
-    }
-    a - b
-}
-
-// The smaller of two numbers.
-fn smaller(a: u32, b: u32) -> u32
-    ensures { result ≡ min a b }
-{
-    if a < b {
-        return a;
-    }
-    b
+    a.abs_diff(b)
 }
 
 // The greatest common divisor of an odd number and another one. Twos have no part in it, and what divides two numbers divides their distance.
@@ -40,9 +27,9 @@ pub fn gcd(a: u32, b: u32) -> u32
     let mut x = a;
     let mut y = b;
     while y != 0 {
-        let o = y >> u32::trailing_zeros(y);
-        y = distance(x, o);
-        x = smaller(x, o);
+        let odd = y >> y.trailing_zeros();
+        y = distance(x, odd);
+        x = x.min(odd);
     }
     x
 }

@@ -1,32 +1,15 @@
 -- The corners of a cell from the ends of its entry: the far ones are one move ahead. Assumes nothing.
--- Definitions: `Ends` where the four corners lie, seen from the entry; `Here` the cell that a crossing of heading g enters.
--- Main laws: `ends` the moves to the far corners stay in the cell; `leave_ends` the heading out, from the four samples so found, is the paper's; `here` a ready state has a cell ahead.
+-- Main laws: `leave_ends` the heading out, from the four samples so found, is the paper's, and `leave_from` from the places that were found; `after_by` the step of a state whose heading is known.
 use mathlib.Core.Path.{◌≡◌, refl, sym, ap, ◌∙◌}
-use mathlib.Core.List.{List}
-use Prim.Native.Nat.{ℕ, ◌+◌, ◌-◌, ◌≤◌, ◌<◌}
+use Prim.Native.Nat.{ℕ, ◌+◌, ◌-◌}
 use native.Mathlib.Omega.{arith}
-use lib.ListN.{length}
-use Rattle.matte.specs.Picture.{Picture, most_places, at}
+use Rattle.matte.specs.Picture.{Picture, at}
 use Rattle.edgel.specs.declared.Heading.{Heading}
 use Rattle.edgel.specs.declared.Heading.TheVariants.{South, East, North, West}
-use Rattle.edgel.specs.Heading.{left, ahead}
+use Rattle.edgel.specs.Heading.{ahead}
 use Rattle.cell.specs.Turn.{Corners, corners, leave}
 use Rattle.step.specs.declared.State.{State}
-use Rattle.step.specs.Step.{four, turned, right_end, left_end, entered, entry, leaving, after, Ready}
-
-pub record Ends (w : ℕ) (g : Heading) (t r l : ℕ) : Type 0 where
-  pub near_right : r ≤ t + w + 1
-  pub near_left : l ≤ t + w + 1
-  pub far_right : ahead w g r ≤ t + w + 1
-  pub far_left : ahead w g l ≤ t + w + 1
-  pub back_right : ahead w (left (left g)) (ahead w g r) ≡ r
-  pub back_left : ahead w (left (left g)) (ahead w g l) ≡ l
-
-pub ends : (w : ℕ) (g : Heading) (t : ℕ) → Ends w g t (right_end w g t) (left_end w g t)
-ends w South t = record { near_right = omega arith; near_left = omega arith; far_right = omega arith; far_left = omega arith; back_right = omega arith; back_left = omega arith }
-ends w East t = record { near_right = omega arith; near_left = omega arith; far_right = omega arith; far_left = omega arith; back_right = omega arith; back_left = omega arith }
-ends w North t = record { near_right = omega arith; near_left = omega arith; far_right = omega arith; far_left = omega arith; back_right = omega arith; back_left = omega arith }
-ends w West t = record { near_right = omega arith; near_left = omega arith; far_right = omega arith; far_left = omega arith; back_right = omega arith; back_left = omega arith }
+use Rattle.step.specs.Step.{four, turned, right_end, left_end, entered, leaving, after}
 
 module _ (P : Picture) where
   abbrev seen : Heading → ℕ → Corners
@@ -48,19 +31,6 @@ module _ (P : Picture) where
   pub leave_ends : (k : ℕ) (g : Heading) (t : ℕ) → leave P k g t ≡ turned k g (seen g t)
   unfolding leave
   leave_ends k g t = ap (turned k g) (corners_seen g t)
-
-pub record Here (px : List ℕ) (w : ℕ) (g : Heading) (i : ℕ) : Type 0 where
-  pub wide : w ≤ 2048
-  pub few : length px ≤ most_places
-  pub back : entry w g (entered w g i) ≡ i
-  pub inside : entered w g i + w + 1 < length px
-
-pub here : (px : List ℕ) (w : ℕ) (s : State) (g : Heading) → s.heading ≡ g → Ready px w s → Here px w g s.place
-here px w s g e R =
-    rw (← e) (record { wide = R.wide; few = R.few; back = R.ahead; inside = R.inside })
-
-pub ends_at : (w : ℕ) (g : Heading) (t r l : ℕ) → r ≡ right_end w g t → l ≡ left_end w g t → Ends w g t r l
-ends_at w g t r l p q = rw (p, q) (ends w g t)
 
 -- the turn of the samples at the entry's ends and one move ahead of them
 pub leave_from : (P : Picture) (k : ℕ) (g : Heading) (t r l a b : ℕ) → r ≡ right_end P.w g t → l ≡ left_end P.w g t → a ≡ ahead P.w g r → b ≡ ahead P.w g l

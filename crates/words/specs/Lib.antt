@@ -1,3 +1,2 @@
 pub mod Fit
-pub mod Gridded
 pub mod Listed

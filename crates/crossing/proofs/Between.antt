@@ -2,7 +2,7 @@
 -- Main laws: `between` on a crossed edgel 0 < num and num < den, in lowest terms; `height` there the surface is half a step above the level; `done_between`, `done_height` so in every answer that is not refused.
 use mathlib.Core.Path.{◌≡◌, refl, sym, ap, ap₂, ◌∙◌}
 use mathlib.Core.Bool.{true}
-use Prim.Native.Nat.{ℕ, ◌+◌, ◌-◌, ◌*◌, ◌≤◌, ◌<◌}
+use Prim.Native.Nat.{ℕ, ◌+◌, ◌*◌, ◌≤◌, ◌<◌}
 use native.Mathlib.Nat.{mul-zero, mul_comm, mul_assoc, mul_left_comm, mul-add, add-mul, lt_of_mul-lt-mul_left, eq_of_mul-eq-mul_left}
 use native.Mathlib.Omega.{arith}
 use lib.Dec.{ltb}

@@ -1,6 +1,6 @@
 -- The crossing call's refusals and its answer, from plain facts. Assumes nothing.
 -- Definitions: `Fine` what a call that is not refused may rely on.
--- Main laws: `fine` what verdict 0 says; `crossed_is`, `passage_is` what the code reads is what the definitions say; `refused_is`, `done_is` the answer.
+-- Main laws: `fine` what verdict 0 says; `last_row` the verdict where none of 1 2 3 8 is given; `crossed_is`, `passage_is` what the code reads is what the definitions say; `refused_is`, `done_is` the answer.
 use mathlib.Core.Path.{◌≡◌, refl, sym, ap, ◌∙◌}
 use mathlib.Core.Bool.{Bool, true, false, not, cond}
 use mathlib.Core.List.{List, [], ◌∷◌}
@@ -12,11 +12,11 @@ use lib.ListN.{length}
 use borrow.Author.Tests.{eq-eqb, ne_eqb}
 use Rattle.tally.specs.Tally.{apart, differ}
 use Rattle.refuse.specs.declared.Answer.{Answer}
-use Rattle.refuse.specs.declared.Verdict.{Verdict}
+use Rattle.refuse.specs.Refusal.{Verdict}
 use Rattle.matte.specs.Layout.{eight}
 use Rattle.matte.specs.Picture.{Picture, at, high}
-use Rattle.refuse.specs.Refusal.{Row, row, answer}
-use Rattle.refuse.proofs.Rows.{clean_fit, parted}
+use Rattle.refuse.specs.Refusal.{Row, row, verdict, answer}
+use Rattle.refuse.proofs.Rows.{clean_fit, gone_on, parted}
 use Rattle.ratio.specs.declared.Fraction.{Fraction}
 use Rattle.ratio.specs.Lowest.{lowest}
 use Rattle.edgel.specs.declared.Heading.{Heading}
@@ -52,6 +52,19 @@ module _ (P : Picture) (k c : ℕ) where
     pub crossed_is : differ (high P k (first c)) (high P k j) ≡ crossed (high P k) P.w c
     unfolding crossed
     crossed_is = ap (λ (i : ℕ). differ (high P k (first c)) (high P k i)) s
+
+  pub last_row : (w h : ℕ) → w ≡ P.w → h ≡ P.h
+      → (f : Bool) → f ≡ edgel w h c
+      → (j : ℕ) → j ≡ second w c
+      → (m : Bool) → m ≡ differ (high P k (first c)) (high P k j)
+      → (z : Verdict) → z.number ≡ 0 → z ≡ verdict (level_rows eight P (k ∷ [])) → z ≡ verdict (row 8 (not f) ∷ [])
+      → (u : Verdict) → u ≡ verdict (row 10 (not m) ∷ []) → u ≡ crossing_verdict eight P k c
+  last_row w h x y f e j s m d z n l r u t =
+      let last = row 10 (not (crossed (high P k) P.w c)) ∷ [] in
+      let fits = e ∙ ap (λ (o : ℕ). edgel o h c) x ∙ ap (λ (o : ℕ). edgel P.w o c) y in
+      let cut = d ∙ crossed_is j (s ∙ ap (λ (o : ℕ). second o c) x) in
+      gone_on (level_rows eight P (k ∷ [])) (code_row P.w P.h c ∷ last) z u refl l n
+      (gone_on (code_row P.w P.h c ∷ []) last z u refl (rw fits at r) n (rw cut at t))
 
   pub passage_is : (a j b m n : ℕ) (f : Fraction) (g : Heading) → a ≡ at P (first c) → j ≡ second P.w c → b ≡ at P j → m ≡ apart (2 * k + 1) (2 * a) → n ≡ 2 * apart a b → f ≡ lowest m n
       → g ≡ heading_of (horizontal c) (ltb k a) → ◌≡◌ {A = Passage} (record { heading = g; num = f.num; den = f.den }) (passage P k c)

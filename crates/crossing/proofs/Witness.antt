@@ -2,8 +2,7 @@
 -- Definitions: `pair` the paper's 4 by 4 picture.
 -- Main laws: `pair_fractions` code 8 is crossed at level 0 after 1/6 and at level 1 after 1/2, code 11 at level 0 after 5/6, as the paper's listing has them in lowest terms.
 use mathlib.Core.Path.{◌≡◌, refl}
-use mathlib.Core.List.{List, [], ◌∷◌}
-use Prim.Native.Nat.{ℕ}
+use mathlib.Core.List.{[], ◌∷◌}
 use Rattle.matte.specs.Picture.{Picture, picture}
 use Rattle.ratio.specs.Lowest.{greatest, gcd}
 use Rattle.crossing.specs.Crossing.{gap, span, num, den}

@@ -1,11 +1,11 @@
 -- One crossing: its exact fraction, its point as floats, and the call. Assumes nothing.
 -- Definitions: `gap`, `span` how far the level is from the left or top sample, and the other sample, doubled; `num`, `den` the fraction of the way in lowest terms; `passage` heading and fraction;
 --   `along` a coordinate moved by it, `point_x`, `point_y` the point; `crossing_rows`, `crossing_verdict`, `crossing_answer` the call.
-use Rattle.std.specs.Prelude.{Bool, true, false, not, cond, List, [], ◌∷◌, ◌++◌, ℕ, ◌+◌, ◌*◌, ◌/◌, ◌%◌, pos, Float}
+use Rattle.std.specs.Prelude.{not, cond, List, [], ◌∷◌, ◌++◌, ℕ, ◌+◌, ◌*◌, pos, Float}
 use Rattle.std.specs.Float.{binary64}
 use Rattle.std.specs.Float.Ieee.{add, div, of_int}
 use Rattle.tally.specs.Tally.{apart}
-use Rattle.refuse.specs.declared.Verdict.{Verdict}
+use Rattle.refuse.specs.Refusal.{Verdict}
 use Rattle.matte.specs.Layout.{Layout}
 use Rattle.matte.specs.Picture.{Picture, at, high}
 use Rattle.refuse.specs.Refusal.{Row, verdict, row, answer, afterwards}

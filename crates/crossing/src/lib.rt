@@ -1,17 +1,18 @@
 // The crossing call: where exactly a level crosses an edgel.
 #![tactic(auto)]
 
-ghost use Rattle.std.specs.Prelude.{◌≡◌, Bool, true, false, cond, ℕ, ◌+◌, ◌*◌, ◌%◌, ◌≤◌, ltb, get_or};
+ghost use Rattle.std.specs.Prelude.{◌≡◌, Bool, true, false, cond, ℕ, ◌+◌, ◌*◌, ◌%◌, ◌≤◌, ltb, get_or, IfOk};
 ghost use Rattle.tally.specs.Tally.{apart, differ};
 ghost use Rattle.matte.specs.Layout.{eight};
 ghost use Rattle.matte.specs.Picture.{picture};
 ghost use Rattle.edgel.specs.Heading.{number};
 ghost use Rattle.edgel.specs.Edgel.{heading_of, second};
+ghost use Rattle.refuse.specs.Told.{verdict_of};
 ghost use Rattle.crossing.specs.Crossing.{passage, whole, along, crossing_verdict, crossing_answer};
 
 use edgel::Heading;
 use ratio::{distance, lowest};
-use refuse::{Answer, Verdict, answered, level_verdict, row_verdict};
+use refuse::{Answer, Reason, Refusal, Size, level_verdict, row_verdict};
 use words::edgel_fits;
 
 // How a level crosses an edgel: the heading, and the fraction num/den of the way in lowest terms.
@@ -22,7 +23,7 @@ pub struct Passage {
     pub den: u32,
 }
 
-// The answer: the heading by its number, the fraction num/den of the way in lowest terms, and the point as floats.
+// The answer, which C reads as it stands: the heading by its number, the fraction num/den of the way in lowest terms, and the point as floats.
 #[repr(C)]
 #[derive(Clone, Copy)]
 pub struct Crossing {
@@ -38,10 +39,7 @@ pub struct Crossing {
 fn splits(k: u8, a: u8, b: u8) -> bool
     ensures { result ≡ differ (ltb k a) (ltb k b) }
 {
-    if k < a {
-        return !(k < b);
-    }
-    k < b
+    (k < a) != (k < b)
 }
 
 // The place of an edgel's right or bottom end.
@@ -56,14 +54,11 @@ fn other_end(w: usize, code: u32) -> usize
     i + w
 }
 
-// The sample at a place, 0 past the last.
+// The sample at a place, 0 past the last. form::byte_at is its twin for bytes that are read, and no crate with code stands under both.
 fn sample_at(px: &[u8], i: usize) -> u8
     ensures { result ≡ get_or px.now i 0 }
 {
-    if i < px.len() {
-        return px[i];
-    }
-    0
+    px.get(i).copied().unwrap_or(0)
 }
 
 // How far the level is from an edgel's left or top sample, doubled: an odd number.
@@ -81,19 +76,16 @@ fn span_of(a: u8, b: u8) -> u32
 }
 
 // The heading of a crossing, by its edgel's direction and whether the left or top end is high.
+// Two bools, as in the definition heading_of.
 fn heading_of(flat: bool, high: bool) -> Heading
     ensures { result ≡ heading_of flat high }
 {
-    if flat {
-        if high {
-            return Heading::North;
-        }
-        return Heading::South;
+    match (flat, high) {
+        (true, true) => Heading::North,
+        (true, false) => Heading::South,
+        (false, true) => Heading::East,
+        (false, false) => Heading::West,
     }
-    if high {
-        return Heading::East;
-    }
-    Heading::West
 }
 
 // How level k crosses the edgel of a code. Every call that needs a crossing's ends, heading or fraction asks here.
@@ -136,47 +128,42 @@ fn coordinate(moves: bool, n: u32, a: u32, b: u32) -> f64
     n as f64
 }
 
-// The refusals 1 2 3 8 10.
-fn crossing_verdict(w: usize, h: usize, px: &[u8], k: u8, code: u32) -> Verdict
-    ensures { result ≡ crossing_verdict eight (picture w h px.now) k code }
+// The refusals 1 2 3 8 10; the picture's size where none is given.
+fn crossing_verdict(w: usize, h: usize, px: &[u8], k: u8, code: u32) -> Result<Size, Refusal>
+    ensures { (verdict_of result ≡ crossing_verdict eight (picture w h px.now) k code) × IfOk result (λ s. (s.width ≡ w) × (s.height ≡ h)) }
 {
-    let ks = [k];
-    let v = level_verdict(w, h, px, &ks);
-    if v.number != 0 {
-        return v;
-    }
-    let u = row_verdict(8, !edgel_fits(w, h, code), 0);
-    if u.number != 0 {
-        return u;
-    }
+    let size = level_verdict(w, h, px, &[k])?;
+    row_verdict(Reason::UnfitWord, !edgel_fits(size, code), 0)?;
     let i = (code / 2) as usize;
-    let j = other_end(w, code);
-    row_verdict(10, !splits(k, px[i], px[j]), 0)
+    let j = other_end(size.width, code);
+    row_verdict(Reason::NotCrossed, !splits(k, px[i], px[j]), 0)?;
+    Ok(size)
 }
 
 // Where level k crosses the edgel of a code.
 pub fn crossing_at(w: usize, h: usize, px: &[u8], k: u8, code: u32) -> Crossing
     ensures { result ≡ crossing_answer eight (picture w h px.now) k code }
 {
-    let v = crossing_verdict(w, h, px, k, code);
-    if v.number != 0 {
-        return Crossing {
-            answer: answered(v, 0, 0),
-            heading: 0,
-            num: 0,
-            den: 0,
-            x: float_of(0),
-            y: float_of(0),
-        };
-    }
+    let size = match crossing_verdict(w, h, px, k, code) {
+        Ok(size) => size,
+        Err(r) => {
+            return Crossing {
+                answer: Answer::refused(r),
+                heading: 0,
+                num: 0,
+                den: 0,
+                x: float_of(0),
+                y: float_of(0),
+            };
+        }
+    };
     let t = passage_at(w, h, px, k, code);
-    let g = t.heading;
     let flat = code % 2 == 0;
     let p = code / 2;
-    let c = w as u32;
+    let c = size.width as u32;
     Crossing {
-        answer: answered(v, 0, 0),
-        heading: heading_number(g),
+        answer: Answer::done(0, 0),
+        heading: heading_number(t.heading),
         num: t.num,
         den: t.den,
         x: coordinate(flat, p % c, t.num, t.den),

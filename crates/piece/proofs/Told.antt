@@ -1,31 +1,21 @@
--- The piece call's refusals and its answer, from plain facts. Assumes nothing.
--- Definitions: `Fine` what a call that is not refused may rely on.
--- Main laws: `fine` what verdict 0 says; `met_from` the four corners say whether an
---   edgel of the cell is crossed; `last_in` the corners are samples of the picture; `refused_is`, `done_is` the answer.
-use mathlib.Core.Path.{◌≡◌, refl, sym, ap, ◌∙◌}
-use mathlib.Core.Bool.{Bool, true, not, ◌||◌, cond}
+-- The piece call's refusals, from plain facts. Assumes nothing.
+-- Main laws: `met_from` the four corners say whether an edgel of the cell is crossed; `last_row` the verdict where none of 1 2 3 11 is given.
+use mathlib.Core.Path.{◌≡◌, refl, ap, ◌∙◌}
+use mathlib.Core.Bool.{Bool, not, ◌&&◌, ◌||◌}
 use mathlib.Core.List.{[], ◌∷◌}
-use Prim.Native.Nat.{ℕ, ◌+◌, ◌*◌, ◌/◌, ◌%◌, ◌<◌}
+use Prim.Native.Nat.{ℕ, ◌+◌, ◌*◌, ◌/◌, ◌%◌}
 use native.Mathlib.Omega.{arith}
-use lib.Arith.{digits_lt}
-use lib.Dec.{eqb, ltb}
-use lib.ListN.{length}
-use borrow.Author.Tests.{ltb-true, eq-eqb, ne_eqb}
+use lib.Dec.{ltb}
 use Rattle.tally.specs.Tally.{differ}
-use Rattle.tally.proofs.Test.{and_1, and_2}
-use Rattle.refuse.specs.declared.Answer.{Answer}
-use Rattle.refuse.specs.declared.Verdict.{Verdict}
+use Rattle.refuse.specs.Refusal.{Verdict}
 use Rattle.matte.specs.Layout.{eight}
-use Rattle.matte.specs.Picture.{Picture, at, high}
-use Rattle.refuse.specs.Refusal.{row, answer}
-use Rattle.refuse.proofs.Rows.{clean_fit, parted}
+use Rattle.matte.specs.Picture.{Picture, high}
+use Rattle.refuse.specs.Refusal.{row, verdict}
+use Rattle.refuse.proofs.Rows.{gone_on}
 use Rattle.edgel.specs.Edgel.{crossed}
-use Rattle.refuse.specs.Shape.{Sides, level_rows}
-use Rattle.refuse.proofs.Sides.{levelled}
+use Rattle.refuse.specs.Shape.{level_rows}
 use Rattle.piece.specs.declared.Corners.{Corners}
-use Rattle.piece.specs.declared.Piece.{Piece}
-use Rattle.piece.specs.declared.Piece.TheVariants.{Refused}
-use Rattle.piece.specs.Piece.{Case, case_of, Told, told, piece_of, cell_at, is_cell, met, piece_verdict, piece_answer}
+use Rattle.piece.specs.Piece.{cell_at, is_cell, met, piece_verdict}
 use Rattle.piece.specs.Curve.{mixed, corners_at}
 
 -- ---- the four sides of a cell
@@ -53,16 +43,6 @@ sides_mixed H w t =
     ∙ ap (λ (x : Bool). crossed H w (2 * (t + w)) || (crossed H w (2 * (t + 1) + 1) || (x || differ (H t) (H (t + w))))) (flat_crossed H w t)
     ∙ ap (λ (x : Bool). crossed H w (2 * (t + w)) || (crossed H w (2 * (t + 1) + 1) || (crossed H w (2 * t) || x))) (tall_crossed H w t)
 
-pub record Fine (P : Picture) (k x y : ℕ) : Type 0 where
-  pub sides : Sides P.w P.h
-  pub samples : length P.px ≡ P.w * P.h
-  pub right : x + 1 < P.w
-  pub below : y + 1 < P.h
-  pub cut : met P k x y ≡ true
-
-pub last_in : (w h x y : ℕ) → x + 1 < w → y + 1 < h → y * w + x + w + 1 < w * h
-last_in w h x y a b = omega (arith, digits_lt b a)
-
 module _ (P : Picture) (k x y : ℕ) where
   met_is : (t : ℕ) → t ≡ cell_at P k x y → mixed (high P k t) (high P k (t + P.w)) (high P k (t + P.w + 1)) (high P k (t + 1)) ≡ met P k x y
   met_is t e = rw e (sides_mixed (high P k) P.w (cell_at P k x y))
@@ -70,32 +50,15 @@ module _ (P : Picture) (k x y : ℕ) where
   pub met_from : (q : Corners) (t : ℕ) → q ≡ corners_at P.w P.px t → t ≡ cell_at P k x y → mixed (ltb k q.p0) (ltb k q.p1) (ltb k q.p2) (ltb k q.p3) ≡ met P k x y
   met_from q t c e = ap (λ (z : Corners). mixed (ltb k z.p0) (ltb k z.p1) (ltb k z.p2) (ltb k z.p3)) c ∙ met_is t e
 
-  pub fine : (v : Verdict) → v ≡ piece_verdict eight P k x y → v.number ≡ 0 → Fine P k x y
-  fine v q zero =
-      let a = parted (level_rows eight P (k ∷ [])) (row 11 (not (is_cell P k x y)) ∷ row 10 (not (met P k x y)) ∷ []) refl (ap (λ (u : Verdict). u.number) (sym q) ∙ zero) in
-      let l = (levelled eight P (k ∷ []) a.0).0 in
-      let e = clean_fit 11 (is_cell P k x y) (row 10 (not (met P k x y)) ∷ []) (λ z. omega arith) a.1 in
-      record {
-        sides = l.sides;
-        samples = l.whole;
-        right = ltb-true (x + 1) P.w (and_1 (ltb (x + 1) P.w) (ltb (y + 1) P.h) e.0);
-        below = ltb-true (y + 1) P.h (and_2 (ltb (x + 1) P.w) (ltb (y + 1) P.h) e.0);
-        cut = (clean_fit 10 (met P k x y) [] (λ z. omega arith) e.1).0;
-      }
-
-  -- ---- the answer
-  abbrev found : ℕ → Case
-  found t = piece_of (at P t) (at P (t + P.w)) (at P (t + P.w + 1)) (at P (t + 1)) k
-
-  abbrev made : Bool → Verdict → Told
-  made b v = record { answer = answer v 0 0; piece = cond b (found (cell_at P k x y)) (case_of Refused) }
-
-  module _ (v : Verdict) (e : v ≡ piece_verdict eight P k x y) (r : Answer) (w : r ≡ answer v 0 0) where
-    pub refused_is : (v.number ≡ 0 → ⊥) → told (record { answer = r; piece = Refused }) ≡ piece_answer eight P k x y
-    refused_is z = rw w (ap (λ (b : Bool). made b v) (sym (ne_eqb v.number 0 z)) ∙ ap (λ (u : Verdict). made (eqb u.number 0) u) e)
-
-    pub done_is : v.number ≡ 0 → (q : Corners) (t : ℕ) → q ≡ corners_at P.w P.px t → t ≡ cell_at P k x y → (p : Piece) → case_of p ≡ piece_of q.p0 q.p1 q.p2 q.p3 k
-        → told (record { answer = r; piece = p }) ≡ piece_answer eight P k x y
-    done_is z q t c s p g =
-        let f : case_of p ≡ found (cell_at P k x y) = g ∙ ap (λ (u : Corners). piece_of u.p0 u.p1 u.p2 u.p3 k) c ∙ ap found s in
-        rw (w, f) (ap (λ (b : Bool). made b v) (sym (eq-eqb v.number 0 z)) ∙ ap (λ (u : Verdict). made (eqb u.number 0) u) e)
+  pub last_row : (w h : ℕ) → w ≡ P.w → h ≡ P.h
+      → (f : Bool) → f ≡ (ltb (x + 1) w && ltb (y + 1) h)
+      → (q : Corners) → q ≡ corners_at w P.px (y * w + x)
+      → (m : Bool) → m ≡ mixed (ltb k q.p0) (ltb k q.p1) (ltb k q.p2) (ltb k q.p3)
+      → (z : Verdict) → z.number ≡ 0 → z ≡ verdict (level_rows eight P (k ∷ [])) → z ≡ verdict (row 11 (not f) ∷ [])
+      → (u : Verdict) → u ≡ verdict (row 10 (not m) ∷ []) → u ≡ piece_verdict eight P k x y
+  last_row w h i j f e q c m d z n l r u t =
+      let last = row 10 (not (met P k x y)) ∷ [] in
+      let cell = e ∙ ap (λ (o : ℕ). ltb (x + 1) o && ltb (y + 1) h) i ∙ ap (λ (o : ℕ). ltb (x + 1) P.w && ltb (y + 1) o) j in
+      let corners = c ∙ ap (λ (o : ℕ). corners_at o P.px (y * o + x)) i in
+      gone_on (level_rows eight P (k ∷ [])) (row 11 (not (is_cell P k x y)) ∷ last) z u refl l n
+      (gone_on (row 11 (not (is_cell P k x y)) ∷ []) last z u refl (rw cell at r) n (rw (d ∙ met_from q _ corners refl) at t))

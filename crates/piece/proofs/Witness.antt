@@ -2,7 +2,7 @@
 -- Definitions: `plain` a whole number that is not negative, as a natural.
 -- Main laws: `case_numbers` the four cases are 0, 1, 2, 3; `corner_heights` the surface of a cell with 10, 20, 30 and 40 at its corners has these at them, and 25 in the middle, with 4 cleared.
 use mathlib.Core.Path.{◌≡◌, refl}
-use mathlib.Core.List.{List, [], ◌∷◌}
+use mathlib.Core.List.{[], ◌∷◌}
 use Prim.Native.Nat.{ℕ}
 use lib.IntN.{ℤ, pos, negsuc}
 use lib.Ieee.{Float}

@@ -2,11 +2,11 @@
 -- Definitions: `is_zero` a whole number is 0; `ratio` a quotient as a float, `within` it lies from 0 to 1; `b`, `c`, `d`, `s` of the cell's corners by place; `met` an edgel of the
 --   cell is crossed; `centre`, `delta`; `Case` a case's number and values, `case_of` those of each case of the enum; `piece_of` which piece it is; `Told` an answer with its piece's number and values,
 --   `told` that of the code's answer; `piece_rows`, `piece_verdict`, `piece_answer` the call.
-use Rattle.std.specs.Prelude.{Bool, true, false, not, ◌&&◌, ◌||◌, cond, List, [], ◌∷◌, ◌++◌, ℕ, suc, ◌+◌, ◌*◌, eqb, ltb, leb, ℤ, pos, negsuc, neg_ℤ, ◌+ℤ◌, ◌-ℤ◌, ◌*ℤ◌, Float}
+use Rattle.std.specs.Prelude.{Bool, false, not, ◌&&◌, ◌||◌, cond, List, [], ◌∷◌, ◌++◌, ℕ, suc, ◌+◌, ◌*◌, eqb, ltb, leb, ℤ, pos, negsuc, neg_ℤ, ◌+ℤ◌, ◌-ℤ◌, ◌*ℤ◌, Float}
 use Rattle.std.specs.Float.{binary64}
 use Rattle.std.specs.Float.Ieee.{div, of_int}
 use Rattle.refuse.specs.declared.Answer.{Answer}
-use Rattle.refuse.specs.declared.Verdict.{Verdict}
+use Rattle.refuse.specs.Refusal.{Verdict}
 use Rattle.matte.specs.Layout.{Layout}
 use Rattle.matte.specs.Picture.{Picture, at, high}
 use Rattle.refuse.specs.Refusal.{Row, verdict, row, answer, afterwards}

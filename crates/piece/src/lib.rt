@@ -1,15 +1,14 @@
 // The piece call: what the level line is inside one cell.
 #![tactic(auto)]
 
-ghost use Rattle.std.specs.Prelude.{◌≡◌, Bool, true, false, ◌&&◌, ℕ, ◌+◌, ◌*◌, ◌<◌, ◌≤◌, ltb, length, pos, ◌-ℤ◌};
-ghost use Rattle.tally.specs.Tally.{differ};
+ghost use Rattle.std.specs.Prelude.{◌≡◌, Bool, true, false, ◌&&◌, ℕ, ◌+◌, ◌*◌, ◌<◌, ◌≤◌, ltb, length, pos, ◌-ℤ◌, IfOk};
 ghost use Rattle.matte.specs.Layout.{eight};
 ghost use Rattle.matte.specs.Picture.{picture};
-ghost use Rattle.refuse.specs.Shape.{Sides};
+ghost use Rattle.refuse.specs.Told.{verdict_of};
 ghost use Rattle.piece.specs.Piece.{up_to, case_of, piece_of, told, piece_verdict, piece_answer};
 ghost use Rattle.piece.specs.Curve.{over, curved_of, term, mixed, corners_at};
 
-use refuse::{Answer, Verdict, answered, level_verdict, row_verdict};
+use refuse::{Answer, Reason, Refusal, Size, level_verdict, row_verdict};
 
 // The centre of the hyperbolas of a cell, relative to its top left sample.
 #[derive(Clone, Copy)]
@@ -18,7 +17,7 @@ pub struct Centre {
     pub ys: f64,
 }
 
-// The piece of a level line in one cell.
+// The piece of a level line in one cell. Refused is a case of its own, and no Err: the definition `case_of` and the theorem `refused_only` speak of the four cases by number.
 #[derive(Clone, Copy)]
 pub enum Piece {
     Refused,
@@ -70,10 +69,7 @@ fn quotient(a: u32, b: u32, m: u32) -> f64
 fn part_within(x: u32, u: u32, m: u32) -> bool
     ensures { result ≡ up_to (pos x -ℤ pos u) m }
 {
-    if x < u {
-        return false;
-    }
-    x - u <= m
+    u <= x && x - u <= m
 }
 
 // The piece of a cell whose d has the size m, with the centre (x − u)/m and (y − v)/m and the excess l − r.
@@ -88,19 +84,17 @@ fn curved(x: u8, u: u8, y: u8, v: u8, l: u32, r: u32, m: u32) -> Piece
     if l != r {
         return Piece::Branch(c, quotient(l, r, 2 * product(m, m)));
     }
-    if !part_within(x as u32, u as u32, m) {
-        return Piece::Straight;
+    if part_within(x as u32, u as u32, m) && part_within(y as u32, v as u32, m) {
+        return Piece::Corner(c);
     }
-    if !part_within(y as u32, v as u32, m) {
-        return Piece::Straight;
-    }
-    Piece::Corner(c)
+    Piece::Straight
 }
 
-// The piece of level k in the cell with these corners by place.
-fn piece_of(k: u8, p0: u8, p1: u8, p2: u8, p3: u8) -> Piece
-    ensures { case_of result ≡ piece_of p0 p1 p2 p3 k }
+// The piece of level k in the cell with these corners.
+fn piece_of(k: u8, q: Corners) -> Piece
+    ensures { case_of result ≡ piece_of q.p0 q.p1 q.p2 q.p3 k }
 {
+    let Corners { p0, p1, p2, p3 } = q;
     let plus = (p0 as u32) + (p2 as u32);
     let minus = (p1 as u32) + (p3 as u32);
     if plus == minus {
@@ -114,95 +108,65 @@ fn piece_of(k: u8, p0: u8, p1: u8, p2: u8, p3: u8) -> Piece
     curved(p0, p1, p0, p3, l, r, plus - minus)
 }
 
-// Exactly one of the two.
-fn unlike(a: bool, b: bool) -> bool
-    ensures { result ≡ differ a b }
+// Some of the corners are high and some low.
+fn is_mixed(k: u8, q: Corners) -> bool
+    ensures { result ≡ mixed (ltb k q.p0) (ltb k q.p1) (ltb k q.p2) (ltb k q.p3) }
 {
-    if a {
-        return !b;
-    }
-    b
-}
-
-// Some of the four corners are high and some low.
-fn is_mixed(h0: bool, h1: bool, h2: bool, h3: bool) -> bool
-    ensures { result ≡ mixed h0 h1 h2 h3 }
-{
-    if unlike(h1, h2) {
-        return true;
-    }
-    if unlike(h3, h2) {
-        return true;
-    }
-    if unlike(h0, h3) {
-        return true;
-    }
-    unlike(h0, h1)
+    let high = q.p0 > k;
+    (q.p1 > k) != high || (q.p2 > k) != high || (q.p3 > k) != high
 }
 
 // (x, y) is the top left sample of a cell.
-fn is_cell(w: usize, h: usize, x: usize, y: usize) -> bool
-    requires { Sides w h }
-    ensures { result ≡ (ltb (x + 1) w && ltb (y + 1) h) }
+fn is_cell(size: Size, x: usize, y: usize) -> bool
+    ensures { result ≡ (ltb (x + 1) size.width && ltb (y + 1) size.height) }
 {
-    if x < w - 1 {
-        return y < h - 1;
-    }
-    false
+    x < size.width - 1 && y < size.height - 1
 }
 
-// The place of a sample.
-fn place_of(w: usize, x: usize, y: usize) -> usize
-    requires { (w ≤ 2048) × (x ≤ 2048) × (y ≤ 2048) }
-    ensures { result ≡ y * w + x }
+// The corners of the cell whose top left sample is (x, y).
+fn corners_at(size: Size, px: &[u8], x: usize, y: usize) -> Corners
+    requires { (length px.now ≡ size.width * size.height) × (x + 1 < size.width) × (y + 1 < size.height) }
+    ensures { result ≡ corners_at size.width px.now (y * size.width + x) }
 {
-    y * w + x
-}
-
-// The corners of the cell whose top left sample is at the place t.
-fn corners_at(px: &[u8], w: usize, t: usize) -> Corners
-    requires { (length px.now ≤ 4194304) × (t + w + 1 < length px.now) }
-    ensures { result ≡ corners_at w px.now t }
-{
+    let t = y * size.width + x;
     Corners {
         p0: px[t],
-        p1: px[t + w],
-        p2: px[t + w + 1],
+        p1: px[t + size.width],
+        p2: px[t + size.width + 1],
         p3: px[t + 1],
     }
 }
 
-// The refusals 1 2 3 11 10.
-fn piece_verdict(w: usize, h: usize, px: &[u8], k: u8, x: usize, y: usize) -> Verdict
-    ensures { result ≡ piece_verdict eight (picture w h px.now) k x y }
+// The refusals 1 2 3 11 10; the cell's corners where none is given.
+fn piece_verdict(
+    w: usize,
+    h: usize,
+    px: &[u8],
+    k: u8,
+    x: usize,
+    y: usize,
+) -> Result<Corners, Refusal>
+    ensures { (verdict_of result ≡ piece_verdict eight (picture w h px.now) k x y) × IfOk result (λ q. q ≡ corners_at w px.now (y * w + x)) }
 {
-    let ks = [k];
-    let v = level_verdict(w, h, px, &ks);
-    if v.number != 0 {
-        return v;
-    }
-    let u = row_verdict(11, !is_cell(w, h, x, y), 0);
-    if u.number != 0 {
-        return u;
-    }
-    let q = corners_at(px, w, place_of(w, x, y));
-    row_verdict(10, !is_mixed(k < q.p0, k < q.p1, k < q.p2, k < q.p3), 0)
+    let size = level_verdict(w, h, px, &[k])?;
+    row_verdict(Reason::NotThere, !is_cell(size, x, y), 0)?;
+    let q = corners_at(size, px, x, y);
+    row_verdict(Reason::NotCrossed, !is_mixed(k, q), 0)?;
+    Ok(q)
 }
 
 // The piece of level k in the cell whose top left sample is (x, y).
 pub fn piece_at(w: usize, h: usize, px: &[u8], k: u8, x: usize, y: usize) -> Found
     ensures { told result ≡ piece_answer eight (picture w h px.now) k x y }
 {
-    let v = piece_verdict(w, h, px, k, x, y);
-    if v.number != 0 {
-        return Found {
-            answer: answered(v, 0, 0),
+    match piece_verdict(w, h, px, k, x, y) {
+        Ok(q) => Found {
+            answer: Answer::done(0, 0),
+            piece: piece_of(k, q),
+        },
+        Err(r) => Found {
+            answer: Answer::refused(r),
             piece: Piece::Refused,
-        };
-    }
-    let q = corners_at(px, w, place_of(w, x, y));
-    Found {
-        answer: answered(v, 0, 0),
-        piece: piece_of(k, q.p0, q.p1, q.p2, q.p3),
+        },
     }
 }

@@ -1,30 +1,37 @@
 -- Counting crossed edgels place by place. Assumes nothing.
--- Main laws: `crossings_sum` the crossed edgels of a level are those that start above the last row, two a place; `pair_most`, `pairs_most`, `all_most` how many they can be; `row_fits` a row is within the picture; `levels_few`, `levels_most` there are at most as many levels as samples have values above 0;
+-- Main laws: `sum_begin`, `sum_more` a sum as far as a loop has come; `crossings_sum` the crossed edgels of a level are those that start above the last row, two a place; `pair_most`, `pairs_most`, `all_most` how many they can be; `row_fits` a row is within the picture; `levels_few`, `levels_most` there are at most as many levels as samples have values above 0;
 --   `counted_none`, `counted_more`, `counted_all` the sum over the levels is the length of the list.
 use mathlib.Core.Path.{◌≡◌, refl, sym, ap, ◌∙◌}
 use mathlib.Core.Bool.{Bool, true, false, ◌&&◌}
 use mathlib.Core.List.{List, [], ◌∷◌}
-use Prim.Native.Nat.{ℕ, zero, suc, ◌+◌, ◌-◌, ◌*◌, ◌/◌, ◌%◌, ◌≤◌, ◌<◌}
+use Prim.Native.Nat.{ℕ, zero, suc, ◌+◌, ◌-◌, ◌*◌, ◌≤◌, ◌<◌}
 use native.Mathlib.Nat.{mod-lt, add-zero, mul-le-mul}
 use native.Mathlib.Numerals.{add-one}
 use native.Mathlib.Omega.{arith}
 use lib.Dec.{ltb, leb}
 use lib.ListN.{length, get_or, take}
 use lib.Seq.{take-suc, take_all}
-use borrow.Author.Tests.{ltb-true, ltb-false, lt-ltb, le-ltb, leb-true}
+use borrow.Author.Tests.{ltb-true, lt-ltb, le-ltb, leb-true}
 use Rattle.tally.specs.Tally.{one, differ, sum, total}
-use Rattle.tally.proofs.Test.{by_test, no, and_1, and_2, both, one_le, differ_self}
-use Rattle.tally.proofs.Sum.{sum_same, sum_none, sum_cut, sum_even, total_append}
+use Rattle.tally.proofs.Test.{by_test, no, and_1, and_2, one_le, differ_self}
+use Rattle.tally.proofs.Sum.{sum_same, sum_next, sum_none, sum_cut, sum_even, total_append}
 use Rattle.matte.specs.Layout.{Layout, eight, ten, layout_of}
 use Rattle.matte.specs.Picture.{Picture, size, high, ascend, levels_fit}
 use Rattle.outline.specs.Line.{cut_at}
 use Rattle.outline.specs.List.{listed}
 use Rattle.outline.proofs.Listed.{listed_length}
-use Rattle.outline.proofs.Border.{Border}
 use Rattle.outline.proofs.Codes.{cut_flat, cut_tall}
 use Rattle.refuse.specs.Shape.{Ground}
 use Rattle.count.specs.Count.{crossings, pair, pair_at}
 use Rattle.count.proofs.Flat.{border_of, crossed_cut, cut_crossed}
+
+-- ---- a sum as far as a loop has come: of nothing, and of one number more
+pub sum_begin : (g : ℕ → ℕ) → 0 ≡ sum g 0
+unfolding sum
+sum_begin g = refl
+
+pub sum_more : (g : ℕ → ℕ) (i n r : ℕ) → n ≡ sum g i → r ≡ g i → n + r ≡ sum g (i + 1)
+sum_more g i n r e h = ap (λ (z : ℕ). z + r) e ∙ ap (λ (z : ℕ). sum g i + z) h ∙ sym (sum_next g i)
 
 module _ (P : Picture) (G : Ground P) (k : ℕ) where
   abbrev H : ℕ → Bool

@@ -1,6 +1,6 @@
 -- Counting by rows of steps. Assumes nothing.
 -- Definitions: `Counted` the rows above row y are counted, and a buffer holds the steps of row y.
--- Main laws: `stored` what holds of each element stored so far; `row_none`, `row_more`, `row_whole` a row of steps is filled one by one; `distances_none`, `distances_more` a row of distances likewise; `distances_both` the sums of two such rows; `part_none`, `part_more`, `part_piece` a sum one by one and piece by piece; `begin`, `go`, `end` the first row, one row more, and the last; `below` the row below lies within; `room_at` what the rows ask of a picture.
+-- Main laws: `stored` what holds of each element stored so far; `row_more` one step more of a row; `distances_both` the sums of two rows of distances; `part_none`, `part_more`, `part_piece` a sum one by one and piece by piece; `begin`, `go`, `end` the first row, one row more, and the last; `below` the row below lies within; `room_at` what the rows ask of a picture.
 use mathlib.Core.Path.{◌≡◌, refl, sym, ap, subst, ◌∙◌}
 use mathlib.Core.List.{List}
 use Prim.Native.Nat.{ℕ, ◌+◌, ◌-◌, ◌*◌, ◌%◌, ◌≤◌, ◌<◌}
@@ -32,9 +32,6 @@ stored Q l b v h q t c u =
     rw (s, get_or-set_same l b v 0 h) t)
     (λ e. rw (get_or-set_other l b c v 0 (eqb-false c b e)) (q c (omega (arith, eqb-false c b e))))
 
-pub row_none : (t px q : List ℕ) (from : ℕ) → length q ≡ 2048 → Row t px from 0 q
-row_none t px q from e = record { room = e; entry = λ x h. absurd (omega arith) }
-
 pub row_more : (t px q : List ℕ) (from x v : ℕ) → Row t px from x q → x < 2048 → get_or px (from + x) 0 < 256 → v ≡ get_or t (get_or px (from + x) 0) 0 → Row t px from (x + 1) (set q x v)
 row_more t px q from x v R h b e =
     record {
@@ -42,20 +39,7 @@ row_more t px q from x v R h b e =
       entry = stored (λ c y. (get_or px (from + c) 0 < 256) × (y ≡ get_or t (get_or px (from + c) 0) 0)) q x v (omega (arith, R.room)) R.entry (b, e);
     }
 
-pub row_whole : (t px q : List ℕ) (from x w : ℕ) → x ≤ w → w ≤ x → Row t px from x q → Row t px from w q
-row_whole t px q from x w a b R = let e : x ≡ w = omega arith in subst (λ (k : ℕ). Row t px from k q) e R
-
--- ---- a row of distances
-pub distances_none : (p q d : List ℕ) (s : ℕ) → length d ≡ 2048 → Distances p q s 0 d
-distances_none p q d s e = record { room = e; entry = λ x h. absurd (omega arith) }
-
-pub distances_more : (p q d : List ℕ) (s x v : ℕ) → Distances p q s x d → x < 2048 → v ≡ apart (get_or p x 0) (get_or q (x + s) 0) → Distances p q s (x + 1) (set d x v)
-distances_more p q d s x v R h e =
-    record {
-      room = simp length-set R.room;
-      entry = stored (λ c y. y ≡ apart (get_or p c 0) (get_or q (c + s) 0)) d x v (omega (arith, R.room)) R.entry e;
-    }
-
+-- ---- two rows of distances
 -- the sums along the row and to the row below make up the distances
 pub distances_both : (p q d f : List ℕ) (end n m : ℕ) → Distances p p 1 end d → Distances p q 0 end f → n ≡ sum (λ i. get_or d i 0) end → m ≡ sum (λ i. get_or f i 0) end → n + m ≡ sum (gaps p q) end
 distances_both p q d f end n m D F a b =

@@ -1,5 +1,5 @@
 -- Steps along an ascending list, and the list's length by the steps of neighbours. Assumes nothing.
--- Main laws: `steps_passed`, `steps_stays`, `steps_over` the step of v + 1 from that of v: one more where the level at that index is at most v, else the same; `level_in`, `level_past` a level by its index; `steps_sum` a byte's step is a sum over as many indices as there are levels, or more; `table_at` an entry of the table; `steps_few` a step is a byte; `steps_none`;
+-- Main laws: `steps_passed`, `steps_stays`, `steps_over` the step of v + 1 from that of v: one more where the level at that index is at most v, else the same; `steps_sum` a byte's step is a sum over as many indices as there are levels, or more; `table_at` an entry of the table; `steps_few` a step is a byte; `steps_none`;
 --   `listed_places` the list has as many words as the steps of all neighbours above the last row are apart; `row_end` nothing at a row's last place.
 use mathlib.Core.Path.{◌≡◌, refl, sym, ap, ◌∙◌}
 use mathlib.Core.Bool.{Bool, true, ◌&&◌}
@@ -85,17 +85,6 @@ module _ (ks : List ℕ) (e : levels_fit eight ks ≡ true) (j v : ℕ) (p : j �
   steps_over h = rw (next eight 0 ks v e, ← p, le-ltb j (length ks) h) (omega arith)
 
 -- ---- by index
--- within the list, and past its end
-pub level_in : (ks : List ℕ) (j : ℕ) → j < length ks → get_or ks j 0 ≡ level_or ks j
-level_in [] j h = absurd (omega arith)
-level_in (k ∷ ks) zero h = refl
-level_in (k ∷ ks) (suc j) h = level_in ks j (omega arith)
-
-pub level_past : (ks : List ℕ) (j : ℕ) → length ks ≤ j → 255 ≡ level_or ks j
-level_past [] j h = refl
-level_past (k ∷ ks) zero h = absurd (omega arith)
-level_past (k ∷ ks) (suc j) h = level_past ks j (omega arith)
-
 -- no byte is above 255, so that the indices past the end add nothing
 pub steps_sum : (ks : List ℕ) (m v : ℕ) → length ks ≤ m → v < 256 → steps ks v ≡ sum (λ j. one (ltb (level_or ks j) v)) m
 unfolding tally sum

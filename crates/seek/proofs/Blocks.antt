@@ -1,20 +1,20 @@
 -- Blocks of 64 places: which of them hold no fresh place, and the first fresh place in them. Assumes nothing.
 -- Definitions: `Finding` the first fresh place of a block among those looked at.
--- Main laws: `any_go`, `any_end` one test more of many, and all; `find_begin`, `find_go`, `find_end`, `none_in` the search inside a block;
+-- Main laws: `any_none`, `any_go` whether one of many tests passes; `first_found`, `first_none` the first number that passes; `none_in` a block with none;
 --   `stale_on` some places more that are not fresh, `stale_next` those of slots that are not live; `or_found`, `or_none`, `or_skip` the first of a run; `or_first` it is the first of all, `or_bare` or none is fresh yet.
 use mathlib.Core.Path.{◌≡◌, refl, sym, ap, ◌∙◌}
-use mathlib.Core.Bool.{Bool, true, false, not, ◌&&◌, cond}
+use mathlib.Core.Bool.{Bool, true, false, not, ◌&&◌, ◌||◌, cond}
 use mathlib.Core.List.{List}
-use Prim.Native.Nat.{ℕ, ◌+◌, ◌-◌, ◌*◌, ◌/◌, ◌%◌, ◌≤◌, ◌<◌, min, max}
+use Prim.Native.Nat.{ℕ, ◌+◌, ◌-◌, ◌*◌, ◌/◌, ◌%◌, ◌≤◌, ◌<◌}
 use native.Mathlib.Numerals.{add-one}
 use native.Mathlib.Omega.{arith}
-use lib.Dec.{eqb, ltb, leb}
+use lib.Dec.{ltb, leb}
 use lib.ListN.{get_or}
-use borrow.Author.Tests.{eqb-true, eqb-false, leb-false, ltb-true, ltb-false, lt-ltb, le-ltb, ne_eqb, not-true}
-use Rattle.tally.specs.Tally.{one, differ, every, first_from}
+use borrow.Author.Tests.{leb-false, ltb-true, ltb-false, lt-ltb, le-ltb, not-true}
+use Rattle.tally.specs.Tally.{differ, every, first_from}
 use Rattle.tally.proofs.Test.{by_test, no, both, differ_self}
 use Rattle.tally.proofs.First.{from_before, from_passes, from_is, from_over}
-use Rattle.tally.proofs.Every.{every_more, every_at}
+use Rattle.tally.proofs.Every.{every_none, every_more, every_at}
 use Rattle.seek.specs.Search.{fresh, slot, reach, Bounds, Slots, live_at, FirstIn, Stale, first_or}
 use Rattle.seek.proofs.Slots.{slot_at, low_under, high_over}
 
@@ -48,62 +48,33 @@ module _ (px : List ℕ) (four : Bool) where
       let v : k < get_or lo c 0 = leb-false (get_or lo c 0) k t in
       lt-ltb k (get_or px (64 * b + i) 0) (omega arith) ∙ sym (lt-ltb k (get_or px (64 * b + i + 1) 0) (omega arith)))))
 
-any_more : (p : ℕ → Bool) (i any : ℕ) (v : Bool) → every p i ≡ eqb any 0 → p i ≡ not v → every p (i + 1) ≡ eqb (max any (one v)) 0
-any_more p i any true e h =
-    ap (every p) (add-one i) ∙ every_more p i ∙ ap (λ (z : Bool). every p i && z) h ∙ nothing (every p i) ∙ sym (ne_eqb (max any 1) 0 (λ z. omega arith))
-  where
-    nothing : (b : Bool) → (b && false) ≡ false
-    nothing true = refl
-    nothing false = refl
-any_more p i any false e h =
-    let s : max any 0 ≡ any = omega arith in
-    ap (every p) (add-one i) ∙ every_more p i ∙ ap (λ (z : Bool). every p i && z) h ∙ all (every p i) ∙ e ∙ ap (λ (z : ℕ). eqb z 0) (sym s)
-  where
-    all : (b : Bool) → (b && true) ≡ b
-    all true = refl
-    all false = refl
+not_both : (x y : Bool) → (not x || y) ≡ not (x && not y)
+not_both true true = refl
+not_both true false = refl
+not_both false y = refl
 
--- a maximum that stays 0 while no test passes: one test more, and after n of them
-pub any_go : (p : ℕ → Bool) (i any : ℕ) (v : Bool) (o g : ℕ) → every p i ≡ eqb any 0 → p i ≡ not v → o ≡ one v → g ≡ max any o → every p (i + 1) ≡ eqb g 0
-any_go p i any v o g e h q r = any_more p i any v e h ∙ ap (λ (z : ℕ). eqb z 0) (sym (r ∙ ap (max any) q))
+-- whether some test passes: of none, and of one test more
+pub any_none : (p : ℕ → Bool) → false ≡ not (every p 0)
+any_none p = ap not (sym (every_none p))
 
-pub any_end : (p : ℕ → Bool) (i any n : ℕ) → i ≡ n → every p i ≡ eqb any 0 → not (eqb any 0) ≡ not (every p n)
-any_end p i any n e h = ap not (sym h ∙ ap (every p) e)
+pub any_go : (p : ℕ → Bool) (i : ℕ) (any v : Bool) → any ≡ not (every (λ j. not (p j)) i) → v ≡ p i → (any || v) ≡ not (every (λ j. not (p j)) (i + 1))
+any_go p i any v e h =
+    let q : ℕ → Bool = λ j. not (p j) in
+    ap (λ (z : Bool). z || v) e ∙ ap (λ (z : Bool). not (every q i) || z) h ∙ not_both (every q i) (p i) ∙ ap not (sym (ap (every q) (add-one i) ∙ every_more q i))
+
+-- the first number from a on that passes, or none before e does
+module _ (p : ℕ → Bool) (a e c : ℕ) where
+  pub first_found : a ≤ c → c < e → ((d : ℕ) → d < c → a ≤ d → p d ≡ false) → p c ≡ true → c ≡ first_from p a (e - a)
+  first_found h l q t = sym (from_is p a (e - a) c h (omega arith) (λ d x y. q d y x) (λ z. t))
+
+  pub first_none : a ≤ e → e ≤ c → ((d : ℕ) → d < c → a ≤ d → p d ≡ false) → e ≡ first_from p a (e - a)
+  first_none h l q = sym (from_is p a (e - a) e h (omega arith) (λ d x y. q d (omega arith) x) (λ z. absurd (omega arith)))
 
 module _ (px work : List ℕ) (k mk a : ℕ) where
   pub record Finding (i m : ℕ) : Type 0 where
     pub most : m ≤ 64
     pub passed : (j : ℕ) → j < i → j < m → fresh px work k mk (a + j) ≡ false
     pub found : m < 64 → (m < i) × (fresh px work k mk (a + m) ≡ true)
-
-  pub find_begin : Finding 0 64
-  find_begin = record { most = omega arith; passed = λ j v t. absurd (omega arith); found = λ t. absurd (omega arith) }
-
-  pub find_go : (i m : ℕ) → i < 64 → Finding i m → (f : Bool) → f ≡ fresh px work k mk (a + i) → Finding (i + 1) (min m (cond f i 64))
-  find_go i m h F true e =
-      by_test (ltb m 64)
-      (λ y.
-      let z = F.found (ltb-true m 64 y) in
-      let x : min m i ≡ m = omega (arith, z.0) in
-      rw x (record { most = F.most; passed = λ j c d. F.passed j (omega (arith, z.0)) d; found = λ d. (omega (arith, z.0), z.1) }))
-      (λ y.
-      let z : 64 ≤ m = ltb-false m 64 y in
-      let x : min m i ≡ i = omega arith in
-      rw x (record { most = omega arith; passed = λ j c d. F.passed j (omega arith) (omega arith); found = λ d. (omega arith, sym e) }))
-  find_go i m h F false e =
-      let x : min m 64 ≡ m = omega (arith, F.most) in
-      rw x
-      (record {
-        most = F.most;
-        passed = λ j c d.
-            by_test (eqb j i)
-            (λ y. ap (λ (z : ℕ). fresh px work k mk (a + z)) (eqb-true j i y) ∙ sym e)
-            (λ y. F.passed j (omega (arith, eqb-false j i y)) d);
-        found = λ d. let z = F.found d in (omega (arith, z.0), z.1);
-      })
-
-  pub find_end : (i m : ℕ) → 64 ≤ i → Finding i m → FirstIn px work k mk a m
-  find_end i m h F = record { most = F.most; passed = λ j c. F.passed j (omega (arith, F.most)) c; found = λ d. (F.found d).1 }
 
   -- none of the 64
   pub none_in : every (λ i. not (fresh px work k mk (a + i))) 64 ≡ true → FirstIn px work k mk a 64

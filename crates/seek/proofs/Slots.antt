@@ -1,19 +1,25 @@
 -- Slots: where the bounds of blocks stand, how far they reach, and the least and the greatest of their samples. Assumes nothing.
--- Main laws: `reach_up`, `reach_few`, `reach_back` how far slots reach; `when_true`, `when_false` one or the other; `reach_four`, `reach_own`, `of_four`, `of_own` by whether bounds are shared; `slot_around`, `slots_within`, `slot_next`, `slot_at`, `slot_blocks` the slots of a block, of whole blocks, of the next one,
---   and of a place, and the blocks of a slot; `bound_none`, `bound_more` one sample more; `bounds_none`, `bounds_more` one slot more; `low_under`, `high_over` they are bounds.
+-- Main laws: `samples_most` there are no more samples than bytes; `reach_up`, `reach_few`, `reach_back` how far slots reach; `slot_around`, `slots_within`, `slot_next`, `slot_at`, `slot_blocks` the slots of a block, of whole blocks, of the next one,
+--   and of a place, and the blocks of a slot; `bound_none`, `bound_more` one sample more; `low_under`, `high_over` they are bounds.
 use mathlib.Core.Path.{◌≡◌, refl, ap, subst}
-use mathlib.Core.Bool.{Bool, true, false, cond}
+use mathlib.Core.Bool.{Bool, true, false}
 use mathlib.Core.List.{List}
 use Prim.Native.Nat.{ℕ, zero, suc, ◌+◌, ◌-◌, ◌*◌, ◌/◌, ◌≤◌, ◌<◌}
 use native.Mathlib.Numerals.{add-one}
 use native.Mathlib.Omega.{arith}
 use lib.Dec.{eqb}
-use lib.ListN.{length, get_or, set}
+use lib.ListN.{length, get_or}
 use borrow.Author.Tests.{eqb-true, eqb-false}
-use Rattle.tally.proofs.Test.{by_test, no}
+use Rattle.tally.proofs.Test.{by_test}
 use Rattle.matte.specs.Picture.{most_places}
-use Rattle.count.proofs.Rows.{stored}
+use Rattle.store.specs.Store.{samples_of}
+use Rattle.store.proofs.Chunks.{pairs_length}
 use Rattle.seek.specs.Search.{slot, reach, span, further, bound_of, Bounds, slot_start, slot_end}
+
+-- a buffer has no more samples than bytes
+pub samples_most : (wide : Bool) (l : List ℕ) → length (samples_of wide l) ≤ length l
+samples_most true l = omega (arith, pairs_length l)
+samples_most false l = omega arith
 
 -- ---- slots
 -- more slots reach further
@@ -30,29 +36,6 @@ reach_few false n m h l = omega arith
 pub reach_back : (four : Bool) (n m : ℕ) → reach four n ≤ reach four m → n ≤ m
 reach_back true n m h = omega arith
 reach_back false n m h = omega arith
-
--- one or the other of two numbers
-pub when_true : (t : Bool) → t ≡ true → (x y : ℕ) → cond t x y ≡ x
-when_true true e x y = refl
-when_true false e x y = no e refl
-
-pub when_false : (t : Bool) → t ≡ false → (x y : ℕ) → cond t x y ≡ y
-when_false true e x y = no refl e
-when_false false e x y = refl
-
-pub reach_four : (four : Bool) → four ≡ true → (n : ℕ) → reach four n ≡ 256 * n
-reach_four four t n = when_true four t (256 * n) (64 * n)
-
-pub reach_own : (four : Bool) → four ≡ false → (n : ℕ) → reach four n ≡ 64 * n
-reach_own four t n = when_false four t (256 * n) (64 * n)
-
-pub of_four : (f : ℕ → ℕ → ℕ) (four : Bool) → four ≡ true → (x x' y y' : ℕ) → f x y ≡ f (cond four x x') (cond four y y')
-of_four f true t x x' y y' = refl
-of_four f false t x x' y y' = no t refl
-
-pub of_own : (f : ℕ → ℕ → ℕ) (four : Bool) → four ≡ false → (x x' y y' : ℕ) → f x' y' ≡ f (cond four x x') (cond four y y')
-of_own f true t x x' y y' = no refl t
-of_own f false t x x' y y' = refl
 
 -- a block lies within its slot
 pub slot_around : (four : Bool) (b : ℕ) → (reach four (slot four b) ≤ 64 * b) × (64 * b + 64 ≤ reach four (slot four b + 1))
@@ -90,9 +73,9 @@ module _ (px : List ℕ) (a : ℕ) where
   unfolding bound_of
   bound_none top = refl
 
-  pub bound_more : (top : Bool) (n : ℕ) → bound_of px top a (n + 1) ≡ further top (bound_of px top a n) (get_or px (a + (n + 1)) 0)
+  pub bound_more : (top : Bool) (n m v r : ℕ) → m ≡ bound_of px top a n → v ≡ get_or px (a + n + 1) 0 → r ≡ further top m v → r ≡ bound_of px top a (n + 1)
   unfolding bound_of
-  bound_more top n = rw (add-one n, bound_of) refl
+  bound_more top n m v r d e f = let s : a + n + 1 ≡ a + suc n = omega arith in rw (f, d, e, s, add-one n, bound_of) refl
 
   least_under : (n i : ℕ) → i ≤ n → bound_of px false a n ≤ get_or px (a + i) 0
   unfolding bound_of
@@ -111,12 +94,6 @@ module _ (px : List ℕ) (a : ℕ) where
       (λ e. omega (arith, greatest_over n i (omega (arith, eqb-false i (suc n) e))))
 
 module _ (px : List ℕ) (four : Bool) where
-  pub bounds_none : (top : Bool) (l : List ℕ) → Bounds px l top four 0
-  bounds_none top l = record { are = λ c h. absurd (omega arith) }
-
-  pub bounds_more : (top : Bool) (l : List ℕ) (c v : ℕ) → c < length l → Bounds px l top four c → v ≡ bound_of px top (reach four c) (span four) → Bounds px (set l c v) top four (c + 1)
-  bounds_more top l c v h R q = record { are = stored (λ d x. x ≡ bound_of px top (reach four d) (span four)) l c v h R.are q }
-
   -- of a block's samples
   module _ (b slots : ℕ) (h : slot four b < slots) (i : ℕ) (l : i ≤ 64) where
     pub low_under : (lo : List ℕ) → Bounds px lo false four slots → get_or lo (slot four b) 0 ≤ get_or px (64 * b + i) 0

@@ -1,13 +1,13 @@
 -- The loops that follow one line, from crossing to crossing: after a step the line is whole or goes on. Assumes nothing.
 -- Definitions: `Arrived` what holds after a step: at the lead the line is whole, elsewhere the walk goes on.
 -- Main laws: `arrive` a step from any crossing arrives; `moving`, `arrive_tall` from a vertical one, which is no lead and marks nothing; `east_is`, `west_is`, `south_flat`, `north_flat`,
---   `east_tall`, `west_tall` headings and the edgels they cross.
+--   `east_tall`, `west_tall` headings and the edgels they cross; `kept_long` a store keeps the length.
 use mathlib.Core.Path.{◌≡◌, refl, sym, ap, ◌∙◌}
 use mathlib.Core.Bool.{true, false}
 use mathlib.Core.List.{List}
 use mathlib.Core.Logic.{◌≢◌}
 use Prim.Native.Nat.{ℕ, ◌+◌, ◌*◌, ◌≤◌}
-use lib.ListN.{length, set}
+use lib.ListN.{length, set, length-set}
 use borrow.Author.Tests.{eqb-false}
 use Rattle.tally.proofs.Test.{no}
 use Rattle.matte.specs.Layout.{Layout}
@@ -50,6 +50,10 @@ east_tall s e = ap (λ (g : Heading). horizontal (code_on g s.place)) e ∙ tall
 
 pub west_tall : (s : State) → s.heading ≡ West → horizontal (code_at s) ≡ false
 west_tall s e = ap (λ (g : Heading). horizontal (code_on g s.place)) e ∙ tall_false s.place
+
+-- one element set, a list is as long as before
+pub kept_long : (u v : List ℕ) (n x m : ℕ) → v ≡ set u n x → length u ≡ m → length v ≡ m
+kept_long u v n x m e h = let s : length (set u n x) ≡ length u = simp length-set in ap length e ∙ s ∙ h
 
 module _ (P : Picture) (G : Ground P) (k : ℕ) (L : Layout) (m e : ℕ) (o : cut_at P k (2 * e) ≡ true) (from : ℕ) (work₀ words₀ : List ℕ) where
   pub record Arrived (n : ℕ) (s : State) (work words : List ℕ) : Type 0 where

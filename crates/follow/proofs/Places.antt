@@ -1,26 +1,20 @@
 -- States and codes of horizontal crossings, and the bytes they mark. Assumes nothing.
--- Main laws: `double`, `lead_code` a horizontal crossing's code is that of a place exactly if it starts there; `lead_at_lem` the state of a lead; `mark_flat`, `mark_tall` what a crossing marks.
-use mathlib.Core.Path.{◌≡◌, sym, ap, ◌∙◌}
+-- Main laws: `no_lead` a vertical crossing's code is that of no place; `lead_at_lem` the state of a lead; `mark_flat`, `mark_tall` what a crossing marks.
+use mathlib.Core.Path.{◌≡◌, ap, ◌∙◌}
 use mathlib.Core.Bool.{Bool, true, false, cond}
 use mathlib.Core.List.{List}
 use Prim.Native.Nat.{ℕ, ◌+◌, ◌*◌, ◌/◌, ◌%◌}
 use native.Mathlib.Omega.{arith}
 use lib.Dec.{eqb}
 use lib.ListN.{set}
-use borrow.Author.Tests.{eqb-true, eqb-false, eq-eqb, ne_eqb}
-use Rattle.tally.proofs.Test.{by_test, no}
+use borrow.Author.Tests.{eq-eqb, ne_eqb}
+use Rattle.tally.proofs.Test.{no}
 use Rattle.edgel.specs.declared.Heading.{Heading}
 use Rattle.edgel.specs.declared.Heading.TheVariants.{South, East, North, West}
 use Rattle.edgel.specs.Edgel.{horizontal, first, heading_of, heading_at}
 use Rattle.step.specs.declared.State.{State}
 use Rattle.step.specs.Step.{code_on, code_at, state_at}
 use Rattle.outline.proofs.Bytes.{mark}
-
-pub double : (i e : ℕ) → eqb (2 * i) (2 * e) ≡ eqb i e
-double i e =
-    by_test (eqb i e)
-    (λ t. eq-eqb (2 * i) (2 * e) (omega (arith, eqb-true i e t)) ∙ sym t)
-    (λ t. ne_eqb (2 * i) (2 * e) (λ z. eqb-false i e t (omega arith)) ∙ sym t)
 
 odd_code : (i e : ℕ) → eqb (2 * i + 1) (2 * e) ≡ false
 odd_code i e = ne_eqb (2 * i + 1) (2 * e) (λ z. omega arith)
@@ -32,15 +26,6 @@ pub tall_false : (i : ℕ) → horizontal (2 * i + 1) ≡ false
 tall_false i = ne_eqb ((2 * i + 1) % 2) 0 (λ z. omega arith)
 
 -- the code of a state against that of a lead
-pub lead_code : (s : State) (e : ℕ) → horizontal (code_at s) ≡ true → eqb (code_at s) (2 * e) ≡ eqb s.place e
-lead_code s e h = go s.heading h
-  where
-    go : (g : Heading) → horizontal (code_on g s.place) ≡ true → eqb (code_on g s.place) (2 * e) ≡ eqb s.place e
-    go South t = double s.place e
-    go East t = no t (tall_false s.place)
-    go North t = double s.place e
-    go West t = no t (tall_false s.place)
-
 pub no_lead : (s : State) (e : ℕ) → horizontal (code_at s) ≡ false → eqb (code_at s) (2 * e) ≡ false
 no_lead s e h = go s.heading h
   where

@@ -24,9 +24,9 @@ first_word true c k base e = omega arith
 first_word false c k base e = omega arith
 
 -- a list with a line's words in it is as long as before
-pub pasted_length : (L : Layout) (k : ℕ) (u : List ℕ) (n : ℕ) (l : List ℕ) → n + length l ≤ length u → length (pasted u n (encode L k false l)) ≡ length u
-pasted_length L k u n l h =
-    let f = encode L k false l in
-    let e = encode_length L k false l in
+pub pasted_length : (L : Layout) (k : ℕ) (first : Bool) (u : List ℕ) (n : ℕ) (l : List ℕ) → n + length l ≤ length u → length (pasted u n (encode L k first l)) ≡ length u
+pasted_length L k first u n l h =
+    let f = encode L k first l in
+    let e = encode_length L k first l in
     length-append (take n u ++ f) (drop (n + length f) u)
     ∙ omega (arith, length-append (take n u) f, length-take-le n u (omega arith), length-drop (n + length f) u)

@@ -1,7 +1,7 @@
 -- The loop that follows one line: where it stands, and what it has written and marked. Assumes nothing.
 -- Definitions: `Tracing` the loop's invariant at the crossing c.
--- Main laws: `ready` a crossing of the line enters a cell of the picture; `onward` the step is the next crossing; `begin`, `go`, `stop`, `never` the loop's moves: it begins at the
---   lead, goes on while the next crossing is not the lead, has the whole line when it is, and never runs out.
+-- Main laws: `ready` a crossing of the line enters a cell of the picture; `onward` the step is the next crossing; `begin`, `go`, `stop` the loop's moves: it begins at the
+--   lead, goes on while the next crossing is not the lead, and has the whole line when it is; `placed` it never runs out of places.
 use mathlib.Core.Path.{◌≡◌, refl, sym, ap, ◌∙◌}
 use mathlib.Core.Bool.{Bool, true, false}
 use mathlib.Core.List.{List, ◌++◌}
@@ -13,7 +13,7 @@ use native.Mathlib.Omega.{arith}
 use lib.ListN.{length, take, drop, get_or, set}
 use lib.Seq.{take-length, paste, paste-zero, paste-suc}
 use Rattle.orbit.proofs.Orbit.{Closed}
-use Rattle.orbit.proofs.Walk.{Walk, walk_begin, walk_go, walk_stop, walk_ok, walk_room}
+use Rattle.orbit.proofs.Walk.{Walk, walk_begin, walk_go, walk_stop, walk_ok}
 use Rattle.matte.specs.Layout.{Layout}
 use Rattle.matte.specs.Picture.{Picture, size, high}
 use Rattle.edgel.specs.declared.Heading.{Heading}
@@ -114,6 +114,10 @@ module _ (P : Picture) (G : Ground P) (k : ℕ) where
       unfolding line
       in_line = T.walk.inside
 
+      -- there is a place for its word
+      pub placed : n < length words₀
+      placed = omega (arith, T.done, in_line, room)
+
       -- what one turn writes and marks
       wrote : (v : ℕ) → v ≡ word L T.c k false → set words n v ≡ paste words₀ from F (suc T.i)
       unfolding line
@@ -167,7 +171,3 @@ module _ (P : Picture) (G : Ground P) (k : ℕ) where
                 marked' ∙ ap (mark_all m work₀) (ap (λ (m : ℕ). take m (line P k a)) z ∙ take-length (line P k a)),
                 told' ∙ ap (paste words₀ from F) y ∙ ap (λ (l : List ℕ). take from words₀ ++ l ++ drop (from + length F) words₀) (take-length F),
               )
-
-      -- the line ends before the loop's limit
-      pub never : n < from + 2 * size P
-      never = omega (arith, T.done, walk_room K a o T.i T.c T.walk)

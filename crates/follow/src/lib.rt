@@ -11,124 +11,105 @@ ghost use Rattle.outline.specs.Line.{cut_at, line};
 ghost use Rattle.outline.specs.List.{encode};
 ghost use Rattle.outline.proofs.Bytes.{mark, mark_all};
 ghost use Rattle.refuse.specs.Shape.{Ground};
-ghost use Rattle.store.specs.Store.{samples_of, places_of};
+ghost use Rattle.store.specs.Store.{samples_of};
 ghost use Rattle.follow.specs.Stride.{Gone, is_east, is_west};
 ghost use Rattle.follow.specs.Words.{pasted, Base};
 
 use edgel::Heading;
 use step::{State, level, through};
-use store::{count_of, put_in, sample};
+use store::{Place, Sample};
 
 // What a level adds to the codes of its crossings.
-pub fn base_of(wide: bool, k: u16) -> u32
-    requires { k < (layout_of wide).most }
-    ensures { (result ≡ k * (layout_of wide).codes) × (result + (layout_of wide).codes ≤ 2147483648) }
+pub fn base_of<T: Sample>(k: T) -> u32
+    requires { T.value k < (layout_of T.wide).most }
+    ensures { (result ≡ T.value k * (layout_of T.wide).codes) × (result + (layout_of T.wide).codes ≤ 2147483648) }
 {
-    if wide {
-        return (k as u32) * 2097152;
-    }
-    (k as u32) * 8388608
+    let codes = if T::is_wide() { 2097152 } else { 8388608 };
+    u32::from(k.number()) * codes
 }
 
 // Stores the word of the horizontal crossing from the place i at n, and marks the place.
-fn put_flat(
-    work: &mut [u8],
-    inb: bool,
-    words: &mut [u32],
-    bytes: &mut [u8],
-    n: usize,
-    i: usize,
-    base: u32,
-    m: u8,
-)
-    requires { (n < length (places_of inb words.old bytes.old)) × (i < length work.old) × (i < most_places) × (base ≤ 2147483648) }
-    ensures { (work.new ≡ set work.old i m) × (places_of inb words.new bytes.new ≡ set (places_of inb words.old bytes.old) n (2 * i + base)) }
+// Clauses say what fits: base and m are of the level, n of the word, i of the step, and a type for all would be made anew at each step.
+fn put_flat<P: Place>(work: &mut [u8], words: &mut [P], n: usize, i: usize, base: u32, m: u8)
+    requires { (n < length (P.words words.old)) × (i < length work.old) × (i < most_places) × (base ≤ 2147483648) }
+    ensures { (work.new ≡ set work.old i m) × (P.words words.new ≡ set (P.words words.old) n (2 * i + base)) }
 {
     work[i] = m;
-    put_in(inb, words, bytes, n, 2 * (i as u32) + base);
+    P::put(words, n, 2 * (i as u32) + base);
 }
 
 // Stores the word of the vertical crossing from the place i at n.
-fn put_tall(inb: bool, words: &mut [u32], bytes: &mut [u8], n: usize, i: usize, base: u32)
-    requires { (n < length (places_of inb words.old bytes.old)) × (i < most_places) × (base ≤ 2147483648) }
-    ensures { places_of inb words.new bytes.new ≡ set (places_of inb words.old bytes.old) n (2 * i + 1 + base) }
+fn put_tall<P: Place>(words: &mut [P], n: usize, i: usize, base: u32)
+    requires { (n < length (P.words words.old)) × (i < most_places) × (base ≤ 2147483648) }
+    ensures { P.words words.new ≡ set (P.words words.old) n (2 * i + 1 + base) }
 {
-    put_in(inb, words, bytes, n, 2 * (i as u32) + 1 + base);
+    P::put(words, n, 2 * (i as u32) + 1 + base);
 }
 
 // Stores a crossing that heads east, and goes through its cell.
-fn go_east(
-    wide: bool,
+fn go_east<T: Sample, P: Place>(
     px: &[u8],
     w: usize,
-    k: u16,
+    k: T,
     base: u32,
-    inb: bool,
-    words: &mut [u32],
-    bytes: &mut [u8],
+    words: &mut [P],
     n: usize,
     s: State,
 ) -> State
-    requires { (Ready (samples_of wide px.now) w s) × (s.heading ≡ East) × (n < length (places_of inb words.old bytes.old)) × Base wide k base }
-    ensures { Gone (samples_of wide px.now) w k s result × (places_of inb words.new bytes.new ≡ set (places_of inb words.old bytes.old) n (word (layout_of wide) (code_at s) k false)) }
+    requires { (Ready (samples_of T.wide px.now) w s) × (s.heading ≡ East) × (n < length (P.words words.old)) × Base T.wide (T.value k) base }
+    ensures { Gone (samples_of T.wide px.now) w (T.value k) s result × (P.words words.new ≡ set (P.words words.old) n (word (layout_of T.wide) (code_at s) (T.value k) false)) }
 {
     let i = s.place;
-    put_tall(inb, words, bytes, n, i, base);
-    through(wide, px, w, k, Heading::East, i, i + w, i)
+    put_tall(words, n, i, base);
+    through(px, w, k, Heading::East, i, i + w, i)
 }
 
-// The same of one that heads west.
-fn go_west(
-    wide: bool,
+// The same of one that heads west. By hand, twice: where the heading is known, the step's table of moves folds away.
+fn go_west<T: Sample, P: Place>(
     px: &[u8],
     w: usize,
-    k: u16,
+    k: T,
     base: u32,
-    inb: bool,
-    words: &mut [u32],
-    bytes: &mut [u8],
+    words: &mut [P],
     n: usize,
     s: State,
 ) -> State
-    requires { (Ready (samples_of wide px.now) w s) × (s.heading ≡ West) × (n < length (places_of inb words.old bytes.old)) × Base wide k base }
-    ensures { Gone (samples_of wide px.now) w k s result × (places_of inb words.new bytes.new ≡ set (places_of inb words.old bytes.old) n (word (layout_of wide) (code_at s) k false)) }
+    requires { (Ready (samples_of T.wide px.now) w s) × (s.heading ≡ West) × (n < length (P.words words.old)) × Base T.wide (T.value k) base }
+    ensures { Gone (samples_of T.wide px.now) w (T.value k) s result × (P.words words.new ≡ set (P.words words.old) n (word (layout_of T.wide) (code_at s) (T.value k) false)) }
 {
     let i = s.place;
-    put_tall(inb, words, bytes, n, i, base);
-    through(wide, px, w, k, Heading::West, i - 1, i, i + w)
+    put_tall(words, n, i, base);
+    through(px, w, k, Heading::West, i - 1, i, i + w)
 }
 
 // Stores a crossing of any heading, marks it if it is horizontal, and goes through its cell.
-fn stride(
-    wide: bool,
+fn stride<T: Sample, P: Place>(
     px: &[u8],
     w: usize,
-    k: u16,
+    k: T,
     base: u32,
     m: u8,
     work: &mut [u8],
-    inb: bool,
-    words: &mut [u32],
-    bytes: &mut [u8],
+    words: &mut [P],
     n: usize,
     s: State,
 ) -> State
-    requires { (Ready (samples_of wide px.now) w s) × (s.place < length work.old) × (n < length (places_of inb words.old bytes.old)) × Base wide k base }
-    ensures { Gone (samples_of wide px.now) w k s result × (work.new ≡ mark m work.old (code_at s)) × (places_of inb words.new bytes.new ≡ set (places_of inb words.old bytes.old) n (word (layout_of wide) (code_at s) k false)) }
+    requires { (Ready (samples_of T.wide px.now) w s) × (s.place < length work.old) × (n < length (P.words words.old)) × Base T.wide (T.value k) base }
+    ensures { Gone (samples_of T.wide px.now) w (T.value k) s result × (work.new ≡ mark m work.old (code_at s)) × (P.words words.new ≡ set (P.words words.old) n (word (layout_of T.wide) (code_at s) (T.value k) false)) }
 {
     let g = s.heading;
     let i = s.place;
     match g {
         Heading::South => {
-            put_flat(work, inb, words, bytes, n, i, base, m);
-            through(wide, px, w, k, Heading::South, i, i, i + 1)
+            put_flat(work, words, n, i, base, m);
+            through(px, w, k, Heading::South, i, i, i + 1)
         }
-        Heading::East => go_east(wide, px, w, k, base, inb, words, bytes, n, s),
+        Heading::East => go_east(px, w, k, base, words, n, s),
         Heading::North => {
-            put_flat(work, inb, words, bytes, n, i, base, m);
-            through(wide, px, w, k, Heading::North, i - w, i + 1, i)
+            put_flat(work, words, n, i, base, m);
+            through(px, w, k, Heading::North, i - w, i + 1, i)
         }
-        Heading::West => go_west(wide, px, w, k, base, inb, words, bytes, n, s),
+        Heading::West => go_west(px, w, k, base, words, n, s),
     }
 }
 
@@ -136,93 +117,71 @@ fn stride(
 fn heads_east(s: State) -> bool
     ensures { result ≡ is_east s.heading }
 {
-    let g = s.heading;
-    match g {
-        Heading::South => false,
-        Heading::East => true,
-        Heading::North => false,
-        Heading::West => false,
-    }
+    matches!(s.heading, Heading::East)
 }
 
 // The crossing heads west.
 fn heads_west(s: State) -> bool
     ensures { result ≡ is_west s.heading }
 {
-    let g = s.heading;
-    match g {
-        Heading::South => false,
-        Heading::East => false,
-        Heading::North => false,
-        Heading::West => true,
-    }
+    matches!(s.heading, Heading::West)
 }
 
 // The crossing is the horizontal one from the place e.
 pub fn at_lead(s: State, e: usize) -> bool
     ensures { result ≡ eqb (code_at s) (2 * e) }
 {
-    let g = s.heading;
-    let i = s.place;
-    if level(g) {
-        return i == e;
-    }
-    false
+    level(s.heading) && s.place == e
 }
 
 // The crossing of the horizontal edgel from the place e, by whether that place is high: it heads S, the start of the order, or N.
+// A bool, as in the definition of the state at a lead: a place is high or not.
 pub fn lead_state(e: usize, high: bool) -> State
     ensures { (H : ℕ → Bool) → H e ≡ high → result ≡ state_at H (2 * e) }
 {
-    if high {
-        return State {
-            place: e,
-            heading: Heading::North,
-        };
-    }
-    State {
-        place: e,
-        heading: Heading::start(),
-    }
+    let heading = if high {
+        Heading::North
+    } else {
+        Heading::start()
+    };
+    State { place: e, heading }
 }
 
 // Follows the line of the lead at the place e: its words go to the places from `from` on, none flagged yet. Returns where they end. Runs to the east and the west have loops of their own, for speed. No crossing starts on the last row, so that row needs no work bytes.
-fn follow(
-    wide: bool,
+fn follow<T: Sample, P: Place>(
     px: &[u8],
     w: usize,
     h: usize,
-    k: u16,
+    k: T,
     m: u8,
     work: &mut [u8],
-    inb: bool,
-    words: &mut [u32],
-    bytes: &mut [u8],
+    words: &mut [P],
     from: usize,
     e: usize,
 ) -> usize
-    requires { (Ground (picture w h (samples_of wide px.now))) × (k < (layout_of wide).most) × (length (samples_of wide px.now) ≤ length work.old + w) × (cut_at (picture w h (samples_of wide px.now)) k (2 * e) ≡ true) × (from + length (line (picture w h (samples_of wide px.now)) k (2 * e)) ≤ length (places_of inb words.old bytes.old)) }
-    ensures { (result ≡ from + length (line (picture w h (samples_of wide px.now)) k (2 * e))) × (work.new ≡ mark_all m work.old (line (picture w h (samples_of wide px.now)) k (2 * e))) × (places_of inb words.new bytes.new ≡ pasted (places_of inb words.old bytes.old) from (encode (layout_of wide) k false (line (picture w h (samples_of wide px.now)) k (2 * e)))) }
+    requires { (Ground (picture w h (samples_of T.wide px.now))) × (T.value k < (layout_of T.wide).most) × (length (samples_of T.wide px.now) ≤ length work.old + w) × (cut_at (picture w h (samples_of T.wide px.now)) (T.value k) (2 * e) ≡ true) × (from + length (line (picture w h (samples_of T.wide px.now)) (T.value k) (2 * e)) ≤ length (P.words words.old)) }
+    ensures { (result ≡ from + length (line (picture w h (samples_of T.wide px.now)) (T.value k) (2 * e))) × (work.new ≡ mark_all m work.old (line (picture w h (samples_of T.wide px.now)) (T.value k) (2 * e))) × (P.words words.new ≡ pasted (P.words words.old) from (encode (layout_of T.wide) (T.value k) false (line (picture w h (samples_of T.wide px.now)) (T.value k) (2 * e)))) }
 {
-    let base = base_of(wide, k);
-    let limit = from + 2 * count_of(wide, px);
-    let mut s = lead_state(e, k < sample(wide, px, e));
+    let base = base_of(k);
+    let limit = P::count(words);
+    let mut s = lead_state(e, k.is_below(T::at(px, e)));
     let mut n = from;
+    // By hand: the runs inside move n on as well, so no range counts the turns.
     while n < limit {
-        s = stride(wide, px, w, k, base, m, work, inb, words, bytes, n, s);
+        s = stride(px, w, k, base, m, work, words, n, s);
         n += 1;
         while heads_east(s) {
             if limit <= n {
                 return n;
             }
-            s = go_east(wide, px, w, k, base, inb, words, bytes, n, s);
+            s = go_east(px, w, k, base, words, n, s);
             n += 1;
         }
         while heads_west(s) {
             if limit <= n {
                 return n;
             }
-            s = go_west(wide, px, w, k, base, inb, words, bytes, n, s);
+            s = go_west(px, w, k, base, words, n, s);
             n += 1;
         }
         if at_lead(s, e) {
@@ -233,25 +192,22 @@ fn follow(
 }
 
 // The same with the first word flagged.
-pub fn trace_line(
-    wide: bool,
+pub fn trace_line<T: Sample, P: Place>(
     px: &[u8],
     w: usize,
     h: usize,
-    k: u16,
+    k: T,
     m: u8,
     work: &mut [u8],
-    inb: bool,
-    words: &mut [u32],
-    bytes: &mut [u8],
+    words: &mut [P],
     from: usize,
     e: usize,
 ) -> usize
-    requires { (Ground (picture w h (samples_of wide px.now))) × (k < (layout_of wide).most) × (length (samples_of wide px.now) ≤ length work.old + w) × (cut_at (picture w h (samples_of wide px.now)) k (2 * e) ≡ true) × (from + length (line (picture w h (samples_of wide px.now)) k (2 * e)) ≤ length (places_of inb words.old bytes.old)) × (2 * length (samples_of wide px.now) ≤ (layout_of wide).codes) }
-    ensures { (result ≡ from + length (line (picture w h (samples_of wide px.now)) k (2 * e))) × (work.new ≡ mark_all m work.old (line (picture w h (samples_of wide px.now)) k (2 * e))) × (places_of inb words.new bytes.new ≡ pasted (places_of inb words.old bytes.old) from (encode (layout_of wide) k true (line (picture w h (samples_of wide px.now)) k (2 * e)))) }
+    requires { (Ground (picture w h (samples_of T.wide px.now))) × (T.value k < (layout_of T.wide).most) × (length (samples_of T.wide px.now) ≤ length work.old + w) × (cut_at (picture w h (samples_of T.wide px.now)) (T.value k) (2 * e) ≡ true) × (from + length (line (picture w h (samples_of T.wide px.now)) (T.value k) (2 * e)) ≤ length (P.words words.old)) × (2 * length (samples_of T.wide px.now) ≤ (layout_of T.wide).codes) }
+    ensures { (result ≡ from + length (line (picture w h (samples_of T.wide px.now)) (T.value k) (2 * e))) × (work.new ≡ mark_all m work.old (line (picture w h (samples_of T.wide px.now)) (T.value k) (2 * e))) × (P.words words.new ≡ pasted (P.words words.old) from (encode (layout_of T.wide) (T.value k) true (line (picture w h (samples_of T.wide px.now)) (T.value k) (2 * e)))) }
 {
-    let n = follow(wide, px, w, h, k, m, work, inb, words, bytes, from, e);
-    let base = base_of(wide, k);
-    put_in(inb, words, bytes, from, 2 * (e as u32) + base + 2147483648);
+    let n = follow(px, w, h, k, m, work, words, from, e);
+    let base = base_of(k);
+    P::put(words, from, 2 * (e as u32) + base + 2147483648);
     n
 }

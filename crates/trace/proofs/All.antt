@@ -9,8 +9,8 @@ use Prim.Native.Nat.{ℕ, ◌+◌, ◌%◌, ◌≤◌, ◌<◌}
 use native.Mathlib.Nat.{mul-le-mul}
 use native.Mathlib.Numerals.{add-one}
 use native.Mathlib.Omega.{arith}
-use lib.ListN.{length, take, drop, get_or, length-append, take-append-drop}
-use lib.Seq.{take-suc, take_all}
+use lib.ListN.{length, take, drop, get_or, length-append, length-drop, take-append-drop}
+use lib.Seq.{take-suc, take_all, length-take-le}
 use Rattle.tally.specs.Tally.{total}
 use Rattle.tally.proofs.Count.{count_at}
 use Rattle.tally.proofs.Sum.{total_append}
@@ -79,7 +79,11 @@ module _ (L : Layout) (P : Picture) (ks : List ℕ) where
     all_begin =
         record { told = paste_none words₀ 0; words_so = refl; lines_so = refl; fewer = omega arith; long = refl; rest = refl; low = λ t i h. absurd (t refl) }
 
-    module _ (j : ℕ) (h : j < length ks) (s : Written) (was work words : List ℕ) (Z : Listing j s was words) (same : length words ≡ length words₀) (m : ℕ) (M : Marked (upper P) j was m work) where
+    module _ (j : ℕ) (h : j < length ks) (s : Written) (was work words : List ℕ) (Z : Listing j s was words) (m : ℕ) (M : Marked (upper P) j was m work) where
+      same : length words ≡ length words₀
+      same =
+          omega (arith, ap length Z.told, length-append (take 0 words₀ ++ so j) (drop (0 + length (so j)) words₀), length-append (take 0 words₀) (so j), length-take-le 0 words₀ (omega arith), length-drop (0 + length (so j)) words₀, listed_room j, R.room)
+
       pub level_ready : LevelReady L P (get_or ks j 0) m work words s
       level_ready =
           record {
@@ -88,7 +92,7 @@ module _ (L : Layout) (P : Picture) (ks : List ℕ) where
             codes = R.fits.room;
             wide = omega (arith, R.wide, Z.long, M.long);
             low = M.low;
-            room = omega (arith, Z.words_so, ap length (listed_take j h), length-append (so j) (level_words L (get_or ks j 0) (lines P (get_or ks j 0))), listed_room (j + 1), R.room);
+            room = omega (arith, same, Z.words_so, ap length (listed_take j h), length-append (so j) (level_words L (get_or ks j 0) (lines P (get_or ks j 0))), listed_room (j + 1), R.room);
             fewer = Z.fewer;
           }
 

@@ -3,14 +3,14 @@ ghost use Rattle.std.specs.Prelude.{◌≢◌, ℕ, ◌+◌, ◌-◌, ◌%◌, �
 ghost use Rattle.matte.specs.Layout.{layout_of};
 ghost use Rattle.matte.specs.Picture.{picture};
 ghost use Rattle.outline.specs.Line.{lines};
-ghost use Rattle.store.specs.Store.{samples_of, places_of};
-ghost use Rattle.seek.specs.Search.{reach, Slots};
+ghost use Rattle.store.specs.Store.{samples_of};
+ghost use Rattle.seek.specs.Search.{reach};
 ghost use Rattle.trace.specs.Level.{LevelReady, LevelDone, Marked, AllReady, AllDone};
 
 use crate::clear;
 use follow::trace_line;
-use seek::search;
-use store::{count_of, sample};
+use seek::{SlotBounds, search};
+use store::{Place, Sample};
 
 // The words and lines written so far.
 #[derive(Clone, Copy)]
@@ -20,38 +20,32 @@ pub struct Written {
 }
 
 // All lines of level k, their words behind those that stand there already. No lead is on the last row, which is border.
-fn level_lines(
-    wide: bool,
-    px: &[u8],
+fn level_lines<T: Sample, P: Place>(
+    bounds: &SlotBounds<T>,
     w: usize,
     h: usize,
-    k: u16,
+    k: T,
     m: u8,
-    lo: &[u8],
-    hi: &[u8],
-    four: bool,
-    slots: usize,
     work: &mut [u8],
-    inb: bool,
-    words: &mut [u32],
-    bytes: &mut [u8],
+    words: &mut [P],
     st: Written,
 ) -> Written
-    requires { (LevelReady (layout_of wide) (picture w h (samples_of wide px.now)) k m work.old (places_of inb words.old bytes.old) st) × (reach four slots ≤ length (samples_of wide px.now) - w) × (Slots (samples_of wide px.now) (samples_of wide lo.now) (samples_of wide hi.now) four slots) }
-    ensures { LevelDone (layout_of wide) (picture w h (samples_of wide px.now)) k m work.old (places_of inb words.old bytes.old) st result work.new (places_of inb words.new bytes.new) }
+    requires { (LevelReady (layout_of T.wide) (picture w h (samples_of T.wide bounds.now.px.now)) (T.value k) m work.old (P.words words.old) st) × (reach bounds.now.four bounds.now.slots ≤ length (samples_of T.wide bounds.now.px.now) - w) }
+    ensures { LevelDone (layout_of T.wide) (picture w h (samples_of T.wide bounds.now.px.now)) (T.value k) m work.old (P.words words.old) st result work.new (P.words words.new) }
 {
-    let end = count_of(wide, px) - w;
+    let end = T::count(bounds.px) - w;
     let mut s = st;
-    let mut p = search(wide, px, work, lo, hi, four, slots, k, m, 0, end);
+    let mut p = search(bounds, work, k, m, 0, end);
+    // By hand: p jumps to the next lead that is found, so no range fits.
     while p < end {
         let from = s.words;
         let l = s.lines;
-        let n = trace_line(wide, px, w, h, k, m, work, inb, words, bytes, from, p);
+        let n = trace_line(bounds.px, w, h, k, m, work, words, from, p);
         s = Written {
             words: n,
             lines: l + 1,
         };
-        p = search(wide, px, work, lo, hi, four, slots, k, m, p + 1, end);
+        p = search(bounds, work, k, m, p + 1, end);
     }
     s
 }
@@ -70,35 +64,24 @@ fn mark_for(work: &mut [u8], n: usize, j: usize) -> u8
 }
 
 // All lines of all levels, from the first place on.
-pub fn all_levels(
-    wide: bool,
-    px: &[u8],
+pub fn all_levels<T: Sample, P: Place>(
+    bounds: &SlotBounds<T>,
     w: usize,
     h: usize,
     ks: &[u8],
     work: &mut [u8],
-    inb: bool,
-    words: &mut [u32],
-    bytes: &mut [u8],
-    lo: &[u8],
-    hi: &[u8],
-    four: bool,
-    slots: usize,
+    words: &mut [P],
 ) -> Written
-    requires { (AllReady (layout_of wide) (picture w h (samples_of wide px.now)) (samples_of wide ks.now) work.old (places_of inb words.old bytes.old)) × (reach four slots ≤ length (samples_of wide px.now) - w) × (Slots (samples_of wide px.now) (samples_of wide lo.now) (samples_of wide hi.now) four slots) }
-    ensures { AllDone (layout_of wide) (picture w h (samples_of wide px.now)) (samples_of wide ks.now) work.old (places_of inb words.old bytes.old) result work.new (places_of inb words.new bytes.new) }
+    requires { (AllReady (layout_of T.wide) (picture w h (samples_of T.wide bounds.now.px.now)) (samples_of T.wide ks.now) work.old (P.words words.old)) × (reach bounds.now.four bounds.now.slots ≤ length (samples_of T.wide bounds.now.px.now) - w) }
+    ensures { AllDone (layout_of T.wide) (picture w h (samples_of T.wide bounds.now.px.now)) (samples_of T.wide ks.now) work.old (P.words words.old) result work.new (P.words words.new) }
 {
-    let end = count_of(wide, px) - w;
-    let levels = count_of(wide, ks);
+    let end = T::count(bounds.px) - w;
+    let levels = T::count(ks);
     let mut s = Written { words: 0, lines: 0 };
-    let mut j: usize = 0;
-    while j < levels {
+    for j in 0..levels {
         let m = mark_for(work, end, j);
-        let k = sample(wide, ks, j);
-        s = level_lines(
-            wide, px, w, h, k, m, lo, hi, four, slots, work, inb, words, bytes, s,
-        );
-        j += 1;
+        let k = T::at(ks, j);
+        s = level_lines(bounds, w, h, k, m, work, words, s);
     }
     s
 }

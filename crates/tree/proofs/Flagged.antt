@@ -4,21 +4,20 @@
 use mathlib.Core.Path.{◌≡◌, refl, sym, ap, ◌∙◌}
 use mathlib.Core.Bool.{Bool, true, false, cond}
 use mathlib.Core.List.{List, [], ◌∷◌, ◌++◌, map}
-use Prim.Native.Nat.{ℕ, zero, suc, ◌+◌, ◌-◌, ◌*◌, ◌/◌, ◌%◌, ◌≤◌, ◌<◌}
-use native.Mathlib.Nat.{div-add-mod', zero-mul}
+use Prim.Native.Nat.{ℕ, zero, suc, ◌+◌, ◌-◌, ◌*◌, ◌≤◌, ◌<◌}
+use native.Mathlib.Nat.{div-add-mod'}
 use native.Mathlib.Numerals.{add-one}
 use native.Mathlib.Omega.{arith}
-use lib.Dec.{leb, eqb}
+use lib.Dec.{leb}
 use lib.ListN.{length, take, drop, get_or, set, length-append}
-use lib.Seq.{take-suc}
+use lib.Seq.{take-suc, take-length}
 use borrow.Author.Tests.{le-leb}
 use Rattle.tally.specs.Tally.{one, tally, flat}
 use Rattle.tally.proofs.Test.{by_test}
 use Rattle.tally.proofs.Fill.{fill_snoc}
-use Rattle.matte.specs.Layout.{Layout, eight}
+use Rattle.matte.specs.Layout.{eight}
 use Rattle.matte.specs.Picture.{Picture}
-use Rattle.edgel.specs.Word.{word, flagged}
-use Rattle.outline.specs.Line.{line}
+use Rattle.edgel.specs.Word.{word}
 use Rattle.outline.specs.List.{encode, listed}
 use Rattle.outline.proofs.Words.{Narrow, flags_line}
 use Rattle.outline.proofs.Levels.{level_below}
@@ -154,34 +153,31 @@ module _ (P : Picture) (ks : List ℕ) (G : Ground P) (S : Setting eight P ks) w
   leads_firsts = ap leads_of (sym (firsts_words eight P S.fits.room ks)) ∙ leads_flat (line_words eight P) (firsts eight P ks) own
 
 -- ---- the loop that takes them
-module _ (l d : List ℕ) (n i m : ℕ) (p : List ℕ) (h : i < n) (k : n ≤ length l) (r : tally (leb 2147483648) (take n l) ≤ length d) (e : m ≡ length (leads_of (take i l)))
+module _ (l d : List ℕ) (i m : ℕ) (p : List ℕ) (h : i < length l) (r : tally (leb 2147483648) l ≤ length d) (e : m ≡ length (leads_of (take i l)))
     (q : p ≡ leads_of (take i l) ++ drop m d) where
   abbrev u : ℕ
   u = get_or l i 0
 
-  in_l : i < length l
-  in_l = omega arith
-
   abbrev so : List ℕ
   so = leads_of (take i l)
 
-  fits : length (leads_of (take (i + 1) l)) ≤ length d
-  fits = omega (arith, leads_length (take (i + 1) l), tally_within (leb 2147483648) l (i + 1) n (omega arith))
+  fits : (j : ℕ) → j ≤ length l → length (leads_of (take j l)) ≤ length d
+  fits j k = omega (arith, leads_length (take j l), tally_within (leb 2147483648) l j (length l) k, ap (tally (leb 2147483648)) (take-length l))
 
   grow : leb 2147483648 u ≡ true → length (leads_of (take (i + 1) l)) ≡ m + 1
-  grow t = ap length (leads_yes l i in_l t) ∙ length-append so ((u - 2147483648) ∷ []) ∙ omega arith
+  grow t = ap length (leads_yes l i h t) ∙ length-append so ((u - 2147483648) ∷ []) ∙ omega arith
 
   pub keep_room : leb 2147483648 (get_or l i 0) ≡ true → m < length d
-  keep_room t = omega (arith, grow t, fits)
+  keep_room t = omega (arith, grow t, fits (i + 1) (omega arith))
 
   pub keep_most : m ≤ length d
-  keep_most = omega (arith, leads_length (take i l), tally_within (leb 2147483648) l i n (omega arith))
+  keep_most = omega (arith, fits i (omega arith))
 
   pub keep_count : m + one (leb 2147483648 (get_or l i 0)) ≡ length (leads_of (take (i + 1) l))
   keep_count =
       by_test (leb 2147483648 u)
       (λ t. rw t (sym (grow t)))
-      (λ t. rw t (omega (arith, ap length (leads_not l i in_l t))))
+      (λ t. rw t (omega (arith, ap length (leads_not l i h t))))
 
   pub keep_places : cond (leb 2147483648 (get_or l i 0)) (set p m (get_or l i 0 - 2147483648)) p ≡ leads_of (take (i + 1) l) ++ drop (m + one (leb 2147483648 (get_or l i 0))) d
   keep_places =
@@ -191,8 +187,8 @@ module _ (l d : List ℕ) (n i m : ℕ) (p : List ℕ) (h : i < n) (k : n ≤ le
       (ap (λ (z : List ℕ). set z m (u - 2147483648)) q
       ∙ ap (λ (z : ℕ). set (so ++ drop z d) z (u - 2147483648)) e
       ∙ fill_snoc so d (u - 2147483648) (omega (arith, keep_room t))
-      ∙ ap (λ (z : List ℕ). z ++ drop (length so + 1) d) (sym (leads_yes l i in_l t))
+      ∙ ap (λ (z : List ℕ). z ++ drop (length so + 1) d) (sym (leads_yes l i h t))
       ∙ ap (λ (z : ℕ). leads_of (take (i + 1) l) ++ drop (z + 1) d) (sym e)))
       (λ t.
       let s : m + 0 ≡ m = omega arith in
-      rw (t, s) (q ∙ ap (λ (z : List ℕ). z ++ drop m d) (sym (leads_not l i in_l t))))
+      rw (t, s) (q ∙ ap (λ (z : List ℕ). z ++ drop m d) (sym (leads_not l i h t))))

@@ -9,7 +9,7 @@ use lib.ListN.{length, take, drop, get_or, replicate, length-append, length-drop
 use lib.Seq.{take_at, drop_at, drop-drop}
 use Rattle.tally.specs.Tally.{tally, total}
 use Rattle.refuse.specs.declared.Answer.{Answer}
-use Rattle.refuse.specs.declared.Verdict.{Verdict}
+use Rattle.refuse.specs.Refusal.{Verdict}
 use Rattle.matte.specs.Layout.{eight}
 use Rattle.matte.specs.Picture.{Picture, size}
 use Rattle.refuse.proofs.Rows.{done_answer, done_after}

@@ -2,19 +2,18 @@
 -- Definitions: `Noting` the loop's invariant at the crossing c.
 -- Main laws: `note_flat`, `note_tall` one crossing; `noted_length`, `all_length` the places stay as many; `begin`, `go`, `stop`, `never` the loop's moves.
 use mathlib.Core.Path.{◌≡◌, refl, sym, ap, ◌∙◌}
-use mathlib.Core.Bool.{Bool, true, false, not, cond}
+use mathlib.Core.Bool.{Bool, true, false, cond}
 use mathlib.Core.List.{List, [], ◌∷◌, ◌++◌}
 use mathlib.Core.Logic.{◌≢◌}
-use Prim.Native.Nat.{ℕ, zero, suc, ◌+◌, ◌-◌, ◌*◌, ◌/◌, ◌%◌, ◌≤◌, ◌<◌}
+use Prim.Native.Nat.{ℕ, suc, ◌+◌, ◌*◌, ◌%◌, ◌<◌}
 use native.Mathlib.Numerals.{add-one}
 use native.Mathlib.Omega.{arith}
-use lib.ListN.{length, take, drop, get_or, set, length-set}
+use lib.ListN.{length, take, get_or, set, length-set}
 use lib.Seq.{take-length}
 use borrow.Author.Tests.{eqb-true}
 use Rattle.tally.proofs.Test.{by_test}
 use Rattle.tally.proofs.Count.{count_at}
-use Rattle.tally.specs.Tally.{count, differ}
-use Rattle.orbit.specs.Orbit.{orbit}
+use Rattle.tally.specs.Tally.{count}
 use Rattle.orbit.proofs.Orbit.{Closed}
 use Rattle.orbit.proofs.Walk.{Walk, walk_begin, walk_go, walk_stop, walk_ok, walk_room, walk_take}
 use Rattle.matte.specs.Picture.{Picture, size, high}

@@ -2,16 +2,15 @@
 -- Main laws: `setting_of`; `gaps_run` the running sums; `gaps_total` all of them; `rank_is` the rank of a crossing; `line_ready` what noting line n asks; `line_noted` afterwards it is noted, and past the ranks nothing has
 --   changed.
 use mathlib.Core.Path.{◌≡◌, refl, sym, ap, subst, ◌∙◌}
-use mathlib.Core.Bool.{Bool, true, false, not, cond}
-use mathlib.Core.List.{List, [], ◌∷◌, ◌++◌}
+use mathlib.Core.Bool.{true}
+use mathlib.Core.List.{List}
 use Prim.Native.Nat.{ℕ, zero, suc, ◌+◌, ◌-◌, ◌*◌, ◌/◌, ◌%◌, ◌≤◌, ◌<◌}
 use native.Mathlib.Numerals.{add-one}
 use native.Mathlib.Omega.{arith}
-use lib.Dec.{ltb}
-use lib.ListN.{length, take, drop, get_or, set, length-set}
+use lib.ListN.{length, take, drop, get_or}
 use lib.Seq.{take-suc, take-length, drop-set-lt}
 use borrow.Author.Tests.{eqb-true, lt-ltb, le-ltb, ltb-true, ltb-false}
-use Rattle.tally.specs.Tally.{apart, count, sum, tally, total}
+use Rattle.tally.specs.Tally.{apart, total}
 use Rattle.tally.proofs.Test.{by_test}
 use Rattle.tally.proofs.Sum.{sum_same}
 use Rattle.tally.proofs.Count.{count_at, tally_none}
@@ -23,21 +22,21 @@ use Rattle.outline.proofs.Counting.{steps, crossings}
 use Rattle.outline.proofs.Codes.{right_in}
 use Rattle.outline.proofs.Levels.{level_below}
 use Rattle.refuse.specs.Shape.{Ground}
-use Rattle.count.proofs.Flat.{border_of, area_most, some, cut_column}
+use Rattle.count.proofs.Flat.{border_of, some, cut_column}
 use Rattle.trace.proofs.All.{eight_fits}
 use Rattle.follow.proofs.Tracing.{place_in}
 use Rattle.enclosure.specs.Position.{key}
 use Rattle.enclosure.specs.Tree.{firsts, line_count, level_at, lead_at, crossings_at}
 use Rattle.enclosure.specs.Call.{heads}
-use Rattle.enclosure.proofs.Lines.{Setting, Line, pass_cut, lead_cut, lead_pass}
+use Rattle.enclosure.proofs.Lines.{Setting, pass_cut, lead_cut, lead_pass}
 use Rattle.enclosure.proofs.Tree.{line_of}
 use Rattle.enclosure.proofs.Value.{lines_few}
-use Rattle.enclosure.proofs.Rank.{rank, pos_at, On, pass_on, lead_on}
+use Rattle.enclosure.proofs.Rank.{rank, pos_at, On, pass_on}
 use Rattle.enclosure.proofs.Running.{run, run_next, run_total, place_apart, rank_south, rank_north, rank_below}
 use Rattle.enclosure.proofs.Notes.{Noted, noted_flat, noted_tall, noted_line}
-use Rattle.tree.specs.Note.{Table, Rising, Starts, gap_at, gaps, rank_at, note_at, noted, noted_all, note_for, LineReady}
+use Rattle.tree.specs.Note.{Table, Starts, gap_at, gaps, rank_at, noted, noted_all, note_for, LineReady}
 use Rattle.tree.proofs.Sums.{rising}
-use Rattle.tree.proofs.Noting.{noted_length, all_length, all_append}
+use Rattle.tree.proofs.Noting.{all_length, all_append}
 
 pub setting_of : (P : Picture) (ks : List ℕ) → Ground P → levels_fit eight ks ≡ true → Setting eight P ks
 setting_of P ks G l = record { fits = eight_fits P G; border = border_of P G; levels = l }

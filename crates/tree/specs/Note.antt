@@ -1,7 +1,7 @@
 -- How the tree call works: steps and running sums, ranks, and the notes that are written at them. Assumes nothing.
 -- Definitions: `Table` the steps of every sample; `gap_at` the crossings between a place and the next, `gaps` those before a place, `Starts` those before every 8th; `rank_at` the rank of a
 --   crossing; `note_of` a note as one number, `note_at` the note of a crossing; `noted`, `noted_all` the word places with the notes of a crossing, of a line; `leads_of` the leads of a word list.
-use Rattle.std.specs.Prelude.{◌≡◌, Bool, true, false, not, cond, List, [], ◌∷◌, ℕ, ◌+◌, ◌-◌, ◌*◌, ◌/◌, ◌%◌, ◌≤◌, ◌<◌, eqb, ltb, leb, length, get_or, set}
+use Rattle.std.specs.Prelude.{◌≡◌, Bool, true, false, not, cond, List, [], ◌∷◌, ℕ, ◌+◌, ◌-◌, ◌*◌, ◌≤◌, ◌<◌, eqb, ltb, leb, length, get_or, set}
 use Rattle.tally.specs.Tally.{one, differ, apart, sum, count, tally, total}
 use Rattle.matte.specs.Layout.{eight}
 use Rattle.matte.specs.Picture.{Picture, levels_fit}

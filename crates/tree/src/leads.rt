@@ -4,7 +4,7 @@ ghost use Rattle.tally.specs.Tally.{one, tally};
 ghost use Rattle.tree.specs.Note.{leads_of};
 
 // Words from this number on are flagged.
-const FLAGGED: u32 = 2147483648;
+const FLAGGED: u32 = 1 << 31;
 
 // A flagged word goes to the place m, without its flag. Returns where the next one goes.
 fn keep(u: u32, m: usize, places: &mut [u32]) -> usize
@@ -12,10 +12,11 @@ fn keep(u: u32, m: usize, places: &mut [u32]) -> usize
     ensures { (result ≡ m + one (leb 2147483648 u)) × (places.new ≡ cond (leb 2147483648 u) (set places.old m (u - 2147483648)) places.old) }
 {
     if FLAGGED <= u {
-        places[m] = u - 2147483648;
-        return m + 1;
+        places[m] = u - FLAGGED;
+        m + 1
+    } else {
+        m
     }
-    m
 }
 
 // The leads among the first n words, to the first places.
@@ -23,10 +24,8 @@ pub fn collect(words: &[u32], n: usize, places: &mut [u32])
     requires { (n ≤ length words.now) × (tally (leb 2147483648) (take n words.now) ≤ length places.old) }
     ensures { places.new ≡ leads_of (take n words.now) ++ drop (length (leads_of (take n words.now))) places.old }
 {
-    let mut m: usize = 0;
-    let mut i: usize = 0;
-    while i < n {
-        m = keep(words[i], m, places);
-        i += 1;
+    let mut m = 0;
+    for u in &words[..n] {
+        m = keep(*u, m, places);
     }
 }

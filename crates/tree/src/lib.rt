@@ -9,6 +9,7 @@ mod walk;
 ghost use Rattle.std.specs.Prelude.{◌≡◌, ◌≤◌, ◌<◌, length};
 ghost use Rattle.matte.specs.Layout.{eight};
 ghost use Rattle.matte.specs.Picture.{picture};
+ghost use Rattle.refuse.specs.Told.{verdict_of};
 ghost use Rattle.outline.specs.List.{list_verdict};
 ghost use Rattle.enclosure.specs.Call.{half, tree_verdict, TreeCall};
 ghost use Rattle.tree.specs.Made.{TreeMade};
@@ -16,7 +17,7 @@ ghost use Rattle.tree.specs.Made.{TreeMade};
 use leads::collect;
 use note::note_all;
 use rank::crossings_of;
-use refuse::{Answer, Verdict, answered, row_verdict};
+use refuse::{Answer, Reason, Refusal, row_verdict};
 use trace::{lean_lines, list_verdict};
 use walk::walk;
 
@@ -29,15 +30,12 @@ fn tree_verdict(
     work: &[u8],
     words: &[u32],
     places: &[u32],
-) -> Verdict
-    ensures { result ≡ tree_verdict eight (picture w h px.now) levels.now work.now words.now places.now }
+) -> Result<(), Refusal>
+    ensures { verdict_of result ≡ tree_verdict eight (picture w h px.now) levels.now work.now words.now places.now }
 {
-    let v = list_verdict(w, h, px, levels, work, words);
-    if v.number != 0 {
-        return v;
-    }
+    list_verdict(w, h, px, levels, work, words)?;
     let half = crossings_of(px, w, h, levels) / 2;
-    row_verdict(7, places.len() < half, half)
+    row_verdict(Reason::TreePlaces, places.len() < half, half)
 }
 
 // Lists the lines, takes their leads to the tree places, notes all crossings at their ranks in the word places, writes the entries by the ranks, and lists again, which puts the words back and clears the work bytes.
@@ -73,9 +71,8 @@ pub fn tree(
 ) -> Answer
     ensures { TreeCall eight (picture w h px.now) levels.now work.old words.old places.old result work.new words.new places.new }
 {
-    let v = tree_verdict(w, h, px, levels, work, words, places);
-    if v.number != 0 {
-        return answered(v, 0, 0);
+    match tree_verdict(w, h, px, levels, work, words, places) {
+        Err(r) => Answer::refused(r),
+        Ok(()) => make(w, h, px, levels, work, words, places),
     }
-    make(w, h, px, levels, work, words, places)
 }

@@ -16,18 +16,22 @@ use count::step_table;
 use follow::{at_lead, lead_state};
 use step::{State, advance, level};
 
-// A bit of a note or an entry, where b.
-pub fn bit_if(b: bool, v: u32) -> u32
-    ensures { (result ≡ one b * v) × (result ≤ v) }
-{
-    if b { v } else { 0 }
-}
+// The bit of a note whose crossing has its lead's heading.
+pub const STRAIGHT: u32 = 1 << 29;
 
+// The bit of a note that is its line's lead.
+pub const LEAD: u32 = 1 << 30;
+
+// The bit of a note or an entry of a lower line.
+pub const LOWER: u32 = 1 << 31;
+
+// A note as one word.
+// Clauses say what fits a note: the numbers are of the line, the places of the picture.
 fn note_word(n: u32, straight: bool, lead: bool, lower: bool) -> u32
     requires { n < 536870912 }
     ensures { result ≡ note_of n straight lead lower }
 {
-    n + bit_if(straight, 536870912) + bit_if(lead, 1073741824) + bit_if(lower, 2147483648)
+    n + u32::from(straight) * STRAIGHT + u32::from(lead) * LEAD + u32::from(lower) * LOWER
 }
 
 // The note of line n, whose lead is at e, for its crossing at i.
@@ -54,12 +58,9 @@ fn put_note(
     requires { (length px.now ≤ 4194304) × (k < 255) × (Rising st.now) × (Starts st.now px.now starts.now) × (n < 536870912) × (e < length px.now) × (s.place < length px.now) × (horizontal (code_at s) ≡ true → rank_at st.now px.now k s.place < length words.old) }
     ensures { words.new ≡ noted st.now px.now k n e words.old (code_at s) }
 {
-    let g = s.heading;
-    let i = s.place;
-    if level(g) {
-        let r = rank_of(px, st, starts, k, i);
-        words[r] = note_of(px, k, n, e, i);
-        return;
+    if level(s.heading) {
+        let r = rank_of(px, st, starts, k, s.place);
+        words[r] = note_of(px, k, n, e, s.place);
     }
 }
 
@@ -78,13 +79,10 @@ fn note_line(
     requires { LineReady (picture w h px.now) st.now starts.now k n e words.old }
     ensures { words.new ≡ noted_all st.now px.now k n e words.old (line (picture w h px.now) k (2 * e)) }
 {
-    let limit = 2 * px.len();
     let mut s = lead_state(e, k < px[e]);
-    let mut i: usize = 0;
-    while i < limit {
+    for _ in 0..2 * px.len() {
         put_note(px, st, starts, k, n, e, s, words);
-        i += 1;
-        s = advance(false, px, w, k as u16, s);
+        s = advance(px, w, k, s);
         if at_lead(s, e) {
             return;
         }
@@ -107,9 +105,7 @@ pub fn note_all(
 {
     let st = step_table(ks);
     run_starts(px, &st, work);
-    let mut m: usize = 0;
-    while m < n {
-        let x = places[m];
+    for (m, x) in places[..n].iter().enumerate() {
         note_line(
             px,
             w,
@@ -121,6 +117,5 @@ pub fn note_all(
             (x % 8388608 / 2) as usize,
             words,
         );
-        m += 1;
     }
 }

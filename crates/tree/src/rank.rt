@@ -13,7 +13,7 @@ use count::{gap, step_table};
 fn step_at(st: &[u8; 256], p: u8) -> u8
     ensures { result ≡ get_or st.now p 0 }
 {
-    st[p as usize]
+    st[usize::from(p)]
 }
 
 // The crossings between the place i and the next.
@@ -30,10 +30,8 @@ pub fn sum_to(px: &[u8], st: &[u8; 256], a: usize, e: usize, n: u32) -> u32
     ensures { (result ≡ gaps st.now px.now e) × (result ≤ 255 * e) }
 {
     let mut m = n;
-    let mut i = a;
-    while i < e {
-        m += gap_at(px, st, i) as u32;
-        i += 1;
+    for i in a..e {
+        m += u32::from(gap_at(px, st, i));
     }
     m
 }
@@ -44,14 +42,12 @@ pub fn run_starts(px: &[u8], st: &[u8; 256], work: &mut [u8])
     ensures { Starts st.now px.now work.new × (drop (length px.now) work.new ≡ drop (length px.now) work.old) }
 {
     let last = (px.len() - 1) / 8;
-    let mut n: u32 = 0;
-    let mut b: usize = 0;
-    while b < last {
+    let mut n = 0;
+    for b in 0..last {
         put4(work, 4 * b, n);
         n = sum_to(px, st, 8 * b, 8 * b + 8, n);
-        b += 1;
     }
-    put4(work, 4 * b, n);
+    put4(work, 4 * last, n);
 }
 
 // The rank of the crossing of level k at the place i.
@@ -62,14 +58,17 @@ pub fn rank_of(px: &[u8], st: &[u8; 256], starts: &[u8], k: u8, i: usize) -> usi
     let b = i / 8;
     let n = sum_to(px, st, 8 * b, i, num4_at(starts, 4 * b));
     let p = px[i];
-    let s = step_at(st, p) as u32;
-    if k < p {
-        return (n + s - step_at(st, k + 1) as u32) as usize;
-    }
-    (n + step_at(st, k) as u32 - s) as usize
+    let s = u32::from(step_at(st, p));
+    let rank = if k < p {
+        n + s - u32::from(step_at(st, k + 1))
+    } else {
+        n + u32::from(step_at(st, k)) - s
+    };
+    rank as usize
 }
 
 // The horizontal crossings of all levels.
+// Clauses say what a tested picture and tested levels are, apart as in the public calls and in their definitions.
 pub fn crossings_of(px: &[u8], w: usize, h: usize, ks: &[u8]) -> usize
     requires { (Ground (picture w h px.now)) × (levels_fit eight ks.now ≡ true) }
     ensures { (result ≡ total (heads (picture w h px.now)) ks.now) × (result ≤ 1069547520) }

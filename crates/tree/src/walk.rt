@@ -8,16 +8,8 @@ ghost use Rattle.enclosure.proofs.Notes.{Noted};
 ghost use Rattle.tree.specs.Note.{note_for};
 ghost use Rattle.tree.specs.Walk.{parent_at, decided, WalkReady};
 
-use crate::note::bit_if;
+use crate::note::{LEAD, LOWER, STRAIGHT};
 use crate::rank::crossings_of;
-
-// The bit of weight v is set.
-fn has_bit(x: u32, v: u32) -> bool
-    requires { 0 < v }
-    ensures { result ≡ odd (x / v) }
-{
-    x / v % 2 == 1
-}
 
 // The parent's number + 1 of the line whose lead has rank r, from the crossing before it; 0 for a root.
 fn parent_at(words: &[u32], r: usize, places: &[u32]) -> u32
@@ -28,11 +20,11 @@ fn parent_at(words: &[u32], r: usize, places: &[u32]) -> u32
         return 0;
     }
     let y = words[r - 1];
-    let m = y % 536870912;
-    if has_bit(y, 536870912) {
+    let m = y % STRAIGHT;
+    if y & STRAIGHT != 0 {
         return m + 1;
     }
-    places[m as usize] % 2147483648
+    places[m as usize] % LOWER
 }
 
 // At the rank r: a lead's line gets its entry.
@@ -41,11 +33,9 @@ fn decide(words: &[u32], r: usize, places: &mut [u32])
     ensures { places.new ≡ decided words.now r places.old }
 {
     let x = words[r];
-    if has_bit(x, 1073741824) {
+    if x & LEAD != 0 {
         let p = parent_at(words, r, places);
-        let lower = bit_if(has_bit(x, 2147483648), 2147483648);
-        places[(x % 536870912) as usize] = p + lower;
-        return;
+        places[(x % STRAIGHT) as usize] = p + (x & LOWER);
     }
 }
 
@@ -55,9 +45,7 @@ pub fn walk(px: &[u8], w: usize, h: usize, ks: &[u8], words: &[u32], places: &mu
     ensures { places.new ≡ build (entry eight (picture w h px.now) ks.now) 0 (line_count eight (picture w h px.now) ks.now) ++ drop (line_count eight (picture w h px.now) ks.now) places.old }
 {
     let total = crossings_of(px, w, h, ks);
-    let mut r: usize = 0;
-    while r < total {
+    for r in 0..total {
         decide(words, r, places);
-        r += 1;
     }
 }

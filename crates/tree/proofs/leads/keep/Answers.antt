@@ -1,11 +1,7 @@
 -- `tree::leads::keep` meets its contract. Assumes nothing.
-use mathlib.Core.Path.{◌≡◌, refl, sym, ap, ◌∙◌}
-use mathlib.Core.Bool.{Bool, true, false, cond}
-use Prim.Native.Nat.{ℕ, ◌+◌, ◌-◌, ◌≤◌, ◌<◌}
+use mathlib.Core.Path.{refl}
 use native.Mathlib.Omega.{arith}
-use lib.ListN.{set}
 use borrow.Author.Tests.{le-leb, lt-leb}
-use Rattle.tally.specs.Tally.{one}
 use Rattle.tree.proofs.leads.keep.Goals as goal
 
 pub bounds-places-m : goal.bounds-places-m
@@ -16,6 +12,6 @@ pub returns-then-u-ge-FLAGGED : goal.returns-then-u-ge-FLAGGED
 returns-then-u-ge-FLAGGED c =
     rw (le-leb 2147483648 c.args.u c.if-u-ge-FLAGGED.true) (refl, refl)
 
-pub returns : goal.returns
-returns c =
+pub returns-else-u-ge-FLAGGED : goal.returns-else-u-ge-FLAGGED
+returns-else-u-ge-FLAGGED c =
     rw (lt-leb 2147483648 c.args.u c.if-u-ge-FLAGGED.false) (omega arith, refl)

@@ -1,13 +1,12 @@
 -- The marks of one number, from the lowest digit on. Assumes nothing.
 -- Definitions: `Adding` what holds before a mark: y has the digits that are left, from the place p on.
--- Main laws: `bits_begin`, `bits_go`, `bits_end` mark by mark; `bits_within` the next mark is one of the 64; `bits_room` it turns samples that are there; `bits_less` fewer are left; `part_room`, `part_go` the same for
---   the marks of a part of a row.
+-- Main laws: `bits_begin`, `bits_go`, `bits_end` mark by mark; `bits_room` the next mark turns samples that are there; `part_go` the marks of a part of a row.
 use Rattle.std.proofs.Common.{◌≡◌, ℕ, ◌+◌, ◌-◌, ◌/◌, ◌^◌, ◌<◌, ◌≤◌, Bool, true, not, ltb, List, sym, ap, ◌∙◌, div-one, arith, shr-shr, ltb-false, ltb-true}
 use lib.Pow.{shr_le}
 use lib.Count.{count_trailing_zeros}
 use Rattle.tally.proofs.Test.{by_test, no}
 use Rattle.marks.specs.Marks.{digit, bit_at, Ahead}
-use Rattle.marks.proofs.Digits.{digit_zero, digit_shift, low_zero, low_one, low_within}
+use Rattle.marks.proofs.Digits.{digit_zero, digit_shift, low_zero, low_one}
 use Rattle.layer.specs.Sums.{Turned, Ends, Walked}
 use Rattle.layer.proofs.Bytes.{turned_same}
 use Rattle.layer.proofs.Walks.{walk_start, walk_flat, walk_mark, walk_join}
@@ -47,9 +46,6 @@ module _ (x base : ℕ) (was : Bool) (d : List ℕ) where
       fits : y < 2 ^ 64
       fits = omega (arith, A.left, shr_le x (p - base))
 
-      pub bits_within : count_trailing_zeros 64 y < 64
-      bits_within = low_within 64 y (omega arith) fits
-
       marked : digit x (p + count_trailing_zeros 64 y - base) ≡ true
       marked =
           let t = count_trailing_zeros 64 y in
@@ -59,14 +55,12 @@ module _ (x base : ℕ) (was : Bool) (d : List ℕ) where
       pub bits_room : (n : ℕ) → ((j : ℕ) → digit x j ≡ true → base + j + 1 < n) → p + count_trailing_zeros 64 y + 1 < n
       bits_room n h = omega (arith, h (p + count_trailing_zeros 64 y - base) marked, A.started)
 
-      pub bits_less : y / 2 ^ count_trailing_zeros 64 y / 2 < y
-      bits_less = omega (arith, shr_le y (count_trailing_zeros 64 y))
-
-      pub bits_go : (g : List ℕ) → Turned (p + count_trailing_zeros 64 y + 1) on (not on) e g → Adding x base was d (y / 2 ^ count_trailing_zeros 64 y / 2 ^ 1) (p + count_trailing_zeros 64 y + 1) (not on) g
+      pub bits_go : (g : List ℕ) → Turned (p + (count_trailing_zeros 64 y + 1)) on (not on) e g → Adding x base was d (y / 2 ^ count_trailing_zeros 64 y / 2 ^ 1) (p + (count_trailing_zeros 64 y + 1)) (not on) g
       bits_go g T =
           let t = count_trailing_zeros 64 y in
           let s : p - base + t + 1 ≡ p + t + 1 - base = omega (arith, A.started) in
-          record {
+          let n : p + (t + 1) ≡ p + t + 1 = omega arith in
+          rw n (record {
             started = omega (arith, A.started);
             left =
                 ap (λ (z : ℕ). z / 2 ^ t / 2 ^ 1) A.left
@@ -81,17 +75,11 @@ module _ (x base : ℕ) (was : Bool) (d : List ℕ) where
             walked =
                 walk_mark marks was base p (p + t) was on d e g A.walked A.started (omega arith)
                 (λ j h k. left_at j h ∙ low_zero 64 y (j - p) (omega arith))
-                marked T;
-          }
+                marked (rw n at T);
+          })
 
 -- ---- a part of a row: the marks from p up to q
 module _ (m : List ℕ) (p q x : ℕ) (W : Ahead m p q x) where
-  pub part_room : (n : ℕ) → q < n → (j : ℕ) → digit x j ≡ true → p + j + 1 < n
-  part_room n h j e =
-      by_test (ltb (p + j) q)
-      (λ t. omega (arith, ltb-true (p + j) q t))
-      (λ t. no e (W.none j (ltb-false (p + j) q t)))
-
   pub part_go : (f : Bool) (lo : ℕ) (was on next : Bool) (d e g : List ℕ) → Walked (bit_at m) f lo p was on d e → lo ≤ p → p ≤ q
       → ((z : ℕ) → Ends x p z → Walked (λ t. digit x (t - p)) on p z on next e g) → Walked (bit_at m) f lo q was next d g
   part_go f lo was on next d e g A l h B =

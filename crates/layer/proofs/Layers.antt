@@ -1,21 +1,14 @@
 -- One level added to all rows. Assumes nothing.
 -- Definitions: `Rows` what holds after some rows.
--- Main laws: `row_end`, `area_le` where rows end; `layer_begin`, `layer_go`, `layer_end` row by row; `layered_same` what is added goes by the places alone.
-use Rattle.std.proofs.Common.{◌≡◌, ℕ, ◌+◌, ◌-◌, ◌*◌, ◌/◌, ◌%◌, ◌<◌, ◌≤◌, Bool, false, ltb, List, length, get_or, sym, refl, ap, ◌∙◌, mul-le-mul_right, mul-le-mul, div-add-mod', arith, ltb-false, ltb-true}
+-- Main laws: `layer_begin`, `layer_go` row by row; `layered_same` what is added goes by the places alone.
+use Rattle.std.proofs.Common.{◌≡◌, ℕ, ◌+◌, ◌-◌, ◌*◌, ◌/◌, ◌%◌, ◌<◌, ◌≤◌, Bool, false, ltb, List, length, get_or, refl, ap, ◌∙◌, zero-mul, div-add-mod', arith, ltb-false, ltb-true}
 use lib.Arith.{digits_div, digits_mod}
 use Rattle.tally.specs.Tally.{one}
 use Rattle.tally.proofs.Test.{by_test}
-use Rattle.refuse.specs.Shape.{Sides}
 use Rattle.layer.specs.Layer.{running}
 use Rattle.layer.specs.Sums.{up_to, Walked, Layered}
 use Rattle.layer.proofs.Bytes.{up_small}
 use Rattle.layer.proofs.Walks.{running_same}
-
-pub row_end : (w h y : ℕ) → y < h → y * w + w ≤ w * h
-row_end w h y l = let k : y + 1 ≤ h = omega arith in omega (arith, mul-le-mul_right w k)
-
-pub area_le : (w h : ℕ) → Sides w h → w * h ≤ 4194304
-area_le w h S = mul-le-mul S.w_most S.h_most
 
 -- the rows before lo are done, and the samples from lo on hold `on`
 pub record Rows (b : ℕ → Bool) (f : Bool) (w lo : ℕ) (on : Bool) (d e : List ℕ) : Type 0 where
@@ -29,36 +22,36 @@ settle : (a b c x y : ℕ) → a < 256 → (a + x) % 256 ≡ (b + y) % 256 → b
 settle a b c x y h p q = omega arith
 
 module _ (b : ℕ → Bool) (f : Bool) (w : ℕ) (d : List ℕ) where
-  pub layer_begin : Rows b f w 0 false d d
+  pub layer_begin : Rows b f w (0 * w) false d d
   layer_begin = record {
     long = refl;
-    done = λ i p. absurd (omega arith);
+    done = λ i p. absurd (omega (arith, zero-mul w));
     far = λ i p. omega (arith, up_small d i);
     rest = λ i p. refl;
   }
 
-  pub layer_go : (y lo : ℕ) (was on : Bool) (e g : List ℕ) → 0 < w → lo ≡ y * w → Rows b f w lo was d e → Walked b f lo (lo + w - 1) was on e g → Rows b f w (lo + w) on d g
-  layer_go y lo was on e g pos s A W = record {
-    long = W.long ∙ A.long;
-    done =
-        λ i p.
-        by_test (ltb i lo)
-        (λ t. W.low i (ltb-true i lo t) ∙ A.done i (ltb-true i lo t))
-        (λ t.
-        let u : lo ≤ i = ltb-false i lo t in
-        let r : i - lo < w = omega arith in
-        let z : i ≡ y * w + (i - lo) = omega arith in
-        let q : i / w * w ≡ lo = ap (λ (v : ℕ). v / w * w) z ∙ ap (λ (v : ℕ). v * w) (digits_div y r) ∙ sym s in
-        let m : i % w ≡ i - lo = ap (λ (v : ℕ). v % w) z ∙ digits_mod y r in
-        rw (q, m)
-        (settle (up_to g i) (up_to e i) (up_to d i) (one was) (one (running b f lo (i - lo))) (up_small g i) (W.near i u (omega arith)) (A.far i u)));
-    far =
-        λ i p. settle (up_to g i) (up_to e i) (up_to d i) (one was) (one on) (up_small g i) (W.far i (omega arith)) (A.far i (omega arith));
-    rest = λ i p. W.rest i (omega arith) ∙ A.rest i (omega arith);
-  }
-
-  pub layer_end : (n : ℕ) (on : Bool) (e : List ℕ) → Rows b f w n on d e → Layered b f w n d e
-  layer_end n on e A = record { long = A.long; done = A.done; same = A.rest }
+  pub layer_go : (y : ℕ) (was on : Bool) (e g : List ℕ) → 0 < w → Rows b f w (y * w) was d e → Walked b f (y * w) (y * w + w - 1) was on e g → Rows b f w ((y + 1) * w) on d g
+  layer_go y was on e g pos A W =
+      let lo = y * w in
+      let n : (y + 1) * w ≡ lo + w = omega arith in
+      rw n (record {
+        long = W.long ∙ A.long;
+        done =
+            λ i p.
+            by_test (ltb i lo)
+            (λ t. W.low i (ltb-true i lo t) ∙ A.done i (ltb-true i lo t))
+            (λ t.
+            let u : lo ≤ i = ltb-false i lo t in
+            let r : i - lo < w = omega arith in
+            let z : i ≡ lo + (i - lo) = omega arith in
+            let q : i / w * w ≡ lo = ap (λ (v : ℕ). v / w * w) z ∙ ap (λ (v : ℕ). v * w) (digits_div y r) in
+            let m : i % w ≡ i - lo = ap (λ (v : ℕ). v % w) z ∙ digits_mod y r in
+            rw (q, m)
+            (settle (up_to g i) (up_to e i) (up_to d i) (one was) (one (running b f lo (i - lo))) (up_small g i) (W.near i u (omega arith)) (A.far i u)));
+        far =
+            λ i p. settle (up_to g i) (up_to e i) (up_to d i) (one was) (one on) (up_small g i) (W.far i (omega arith)) (A.far i (omega arith));
+        rest = λ i p. W.rest i (omega arith) ∙ A.rest i (omega arith);
+      })
 
 -- the row of a place stands before it
 in_row : (w i j : ℕ) → j < i % w → i / w * w + j < i

@@ -1,7 +1,7 @@
 -- The levels painted one after the other. Assumes nothing.
 -- Main laws: `marks_turned` the marks of a level are the edgels that its words turn; `levels_begin`, `levels_go` level by level; `summed_over` what lay there before plays no part; `written` the sums are the
 --   samples.
-use Rattle.std.proofs.Common.{◌≡◌, ℕ, ◌+◌, ◌*◌, ◌/◌, ◌%◌, ◌<◌, Bool, true, false, ltb, List, length, get_or, take, sym, refl, ap, ◌∙◌, mod-eq_of_lt, arith}
+use Rattle.std.proofs.Common.{◌≡◌, ℕ, ◌+◌, ◌*◌, ◌/◌, ◌%◌, ◌<◌, Bool, true, false, ltb, List, length, get_or, take, sym, ap, ◌∙◌, mod-eq_of_lt, arith}
 use Rattle.tally.specs.Tally.{one, differ, tally}
 use Rattle.tally.proofs.Count.{tally_length}
 use Rattle.fill.specs.Filled.{Filled}
@@ -22,12 +22,12 @@ module _ (w v : ℕ) (ks : List ℕ) where
   abbrev state_at : List ℕ → ℕ → ℕ → Bool
   state_at ws i k = running (turned_at eight k ws) (ltb k v) (i / w * w) (i % w)
 
-  pub levels_begin : (n : ℕ) (ws d : List ℕ) → ((i : ℕ) → i < n → get_or d i 0 ≡ 0) → Summed (stacked eight w v (take 0 ks) ws) n d d
+  pub levels_begin : (n : ℕ) (ws c d : List ℕ) → Filled (λ i. 0) c n d → Summed (stacked eight w v (take 0 ks) ws) n c d
   unfolding stacked
-  levels_begin n ws d q = record {
-    long = refl;
-    done = λ i h. up_none n d q i h ∙ ap (λ (z : ℕ). z % 256) (take_none (state_at ws i) ks);
-    same = λ i h. refl;
+  levels_begin n ws c d F = record {
+    long = F.long;
+    done = λ i h. up_none n d F.done i h ∙ ap (λ (z : ℕ). z % 256) (take_none (state_at ws i) ks);
+    same = F.same;
   }
 
   -- one level more, of which the words us have all; of the levels before, they have no more than ws
@@ -60,10 +60,10 @@ module _ (w v : ℕ) (ks : List ℕ) where
     same = λ i l. F.same i l ∙ A.same i l;
   }
 
--- the same over samples that were blanked
-pub summed_over : (f : ℕ → ℕ) (n : ℕ) (c d e g : List ℕ) → Summed f n c d → Filled (λ i. 0) d n e → (q : ℕ → ℕ) → Summed q n e g → Summed q n c g
-summed_over f n c d e g A F q B = record {
-  long = B.long ∙ F.long ∙ A.long;
+-- the same over samples that were painted before
+pub summed_over : (f : ℕ → ℕ) (n : ℕ) (c d e : List ℕ) → Summed f n c d → (q : ℕ → ℕ) → Summed q n d e → Summed q n c e
+summed_over f n c d e A q B = record {
+  long = B.long ∙ A.long;
   done = B.done;
-  same = λ i l. B.same i l ∙ F.same i l ∙ A.same i l;
+  same = λ i l. B.same i l ∙ A.same i l;
 }

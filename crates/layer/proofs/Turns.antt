@@ -1,5 +1,5 @@
 -- The edgels that the words of a level turn. Assumes nothing.
--- Main laws: `hit_is` what one word turns; `turned_none`, `turned_more`, `turned_end` what a list turns, word by word.
+-- Main laws: `hit_is` what one word turns; `turned_none`, `turned_more` what a list turns, word by word.
 use Rattle.std.proofs.Common.{◌≡◌, ℕ, ◌+◌, ◌/◌, ◌%◌, ◌<◌, Bool, true, false, ◌&&◌, eqb, List, length, get_or, take, sym, refl, ap, ◌∙◌}
 use Rattle.tally.specs.Tally.{one, odd, differ, tally}
 use Rattle.tally.proofs.Test.{differ_assoc}
@@ -7,7 +7,7 @@ use Rattle.tally.proofs.Parity.{odd_plus, odd_one}
 use Rattle.matte.specs.Layout.{Layout, eight}
 use Rattle.edgel.specs.Word.{code_of, level_of}
 use Rattle.layer.specs.Layer.{hits, turned_at}
-use Rattle.layer.proofs.Takes.{take_all, take_none, take_more}
+use Rattle.layer.proofs.Takes.{take_none, take_more}
 
 -- ---- one word
 pub hit_is : (k p u l c : ℕ) → l ≡ level_of eight u → c ≡ code_of eight u → ((eqb l k && eqb (c % 2) 0) && eqb p (c / 2)) ≡ hits eight k p u
@@ -37,6 +37,3 @@ module _ (L : Layout) (k : ℕ) (ws : List ℕ) (p : ℕ) where
       e ∙ ap (λ (z : Bool). differ z (hits L k p (get_or ws i 0))) q
       ∙ differ_assoc b (turned_at L k (take i ws) p) (hits L k p (get_or ws i 0))
       ∙ ap (differ b) (sym (turned_more i h))
-
-  pub turned_end : (i : ℕ) → i ≡ length ws → turned_at L k (take i ws) p ≡ turned_at L k ws p
-  turned_end i e = ap (λ (l : List ℕ). turned_at L k l p) (take_all ws i e)

@@ -3,10 +3,10 @@ ghost use Rattle.std.specs.Prelude.{◌≡◌, ℕ, ◌+◌, ◌-◌, ◌*◌, �
 ghost use Rattle.tally.specs.Tally.{one};
 ghost use Rattle.fill.specs.Filled.{Filled};
 ghost use Rattle.marks.specs.Marks.{digit, bit_at};
-ghost use Rattle.refuse.specs.Shape.{Sides};
 ghost use Rattle.layer.specs.Sums.{up_to, Turned, Ends, Walked, Layered};
 
 use marks::{ahead, ahead_to};
+use refuse::Size;
 
 // What is added to turn samples over that are `on`.
 fn tick(on: bool) -> u8
@@ -20,7 +20,7 @@ fn turn(room: &mut [u8], p: usize, on: bool)
     requires { p < length room.old }
     ensures { Turned p on (not on) room.old room.new }
 {
-    room[p] = std::num::wrapping_add_u8(room[p], tick(on));
+    room[p] = room[p].wrapping_add(tick(on));
 }
 
 // Makes the samples from p on, which are `was`, f.
@@ -28,10 +28,9 @@ fn switch(room: &mut [u8], p: usize, was: bool, f: bool)
     requires { p < length room.old }
     ensures { Turned p was f room.old room.new }
 {
-    if was == f {
-        return;
+    if was != f {
+        turn(room, p, was);
     }
-    turn(room, p, was);
 }
 
 // Turns, for each mark of x, the samples after it; x has the marks from `base` on. Answers what the last samples are.
@@ -43,8 +42,8 @@ fn add_bits(x: u64, base: usize, was: bool, room: &mut [u8]) -> bool
     let mut p = base;
     let mut on = was;
     while y != 0 {
-        let t = u64::trailing_zeros(y);
-        p = p + t as usize + 1;
+        let t = y.trailing_zeros();
+        p += t as usize + 1;
         turn(room, p, on);
         on = !on;
         y = (y >> t) >> 1;
@@ -61,6 +60,7 @@ fn add_row(m: &[u64; 65536], lo: usize, hi: usize, was: bool, f: bool, room: &mu
     let end = hi - 1;
     let mut on = f;
     let mut p = lo;
+    // By hand: p jumps to the next 64, so no range fits.
     while p / 64 < end / 64 {
         on = add_bits(ahead(m, p), p, on, room);
         p = (p / 64 + 1) * 64;
@@ -69,19 +69,15 @@ fn add_row(m: &[u64; 65536], lo: usize, hi: usize, was: bool, f: bool, room: &mu
 }
 
 // Adds level k to all rows.
-pub fn add_layer(w: usize, h: usize, m: &[u64; 65536], v: u8, k: u8, room: &mut [u8])
-    requires { (Sides w h) × (w * h ≤ length room.old) }
-    ensures { Layered (bit_at m.now) (nat_lt k v) w (w * h) room.old room.new }
+pub fn add_layer(size: Size, m: &[u64; 65536], v: u8, k: u8, room: &mut [u8])
+    requires { size.width * size.height ≤ length room.old }
+    ensures { Layered (bit_at m.now) (nat_lt k v) size.width (size.width * size.height) room.old room.new }
 {
     let f = k < v;
     let mut on = false;
-    let mut lo = 0;
-    let mut y = 0;
-    while y < h {
-        let hi = lo + w;
-        on = add_row(m, lo, hi, on, f, room);
-        lo = hi;
-        y += 1;
+    for y in 0..size.height {
+        let lo = y * size.width;
+        on = add_row(m, lo, lo + size.width, on, f, room);
     }
 }
 
@@ -91,10 +87,8 @@ pub fn add_up(room: &mut [u8], n: usize)
     ensures { Filled (up_to room.old) room.old n room.new }
 {
     let mut s: u8 = 0;
-    let mut p = 0;
-    while p < n {
-        s = std::num::wrapping_add_u8(s, room[p]);
-        room[p] = s;
-        p += 1;
+    for x in room[..n].iter_mut() {
+        s = s.wrapping_add(*x);
+        *x = s;
     }
 }

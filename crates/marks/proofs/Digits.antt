@@ -1,6 +1,6 @@
 -- Binary digits. Assumes nothing.
 -- Main laws: `digit_zero` 0 has none; `digit_shift` a digit of a shifted number; `digit_past` a number below 2^k has none from k on; `digit_low` the lower digits of a number; `shift_fits`; `digit_power` a power of two has
---   one; `differ_none`; `digit_flip` of a number one digit of which was turned over, or none; `low_zero`, `low_one`, `low_within` the digits up to the lowest that is set.
+--   one; `differ_none`; `digit_flip` of a number one digit of which was turned over, or none; `low_zero`, `low_one` the digits up to the lowest that is set.
 use mathlib.Core.Path.{◌≡◌, refl, sym, ap, ◌∙◌}
 use mathlib.Core.Bool.{Bool, true, false, ◌&&◌}
 use Prim.Native.Nat.{ℕ, zero, suc, ◌+◌, ◌-◌, ◌*◌, ◌/◌, ◌%◌, ◌^◌, ◌≤◌, ◌<◌}
@@ -12,7 +12,7 @@ use lib.Bits.{bit_xor, xor_shr, xor_mod, xor_zero_r}
 use lib.Count.{count_trailing_zeros}
 use borrow.Author.Tests.{eqb-true, eqb-false, eq-eqb, ne_eqb, ltb-true, ltb-false}
 use Rattle.tally.specs.Tally.{one, odd, differ}
-use Rattle.tally.proofs.Test.{by_test, no}
+use Rattle.tally.proofs.Test.{by_test}
 use Rattle.marks.specs.Marks.{digit}
 
 pub digit_zero : (i : ℕ) → digit 0 i ≡ false
@@ -122,9 +122,3 @@ low_one (suc k) x p h =
     (λ e.
     let o : x % 2 ≡ 1 = omega (arith, eqb-false (x % 2) 0 e) in
     rw o (digit_first x ∙ eq-eqb (x % 2) 1 o))
-
-pub low_within : (k x : ℕ) → 0 < x → x < 2 ^ k → count_trailing_zeros k x < k
-low_within k x p h =
-    by_test (ltb (count_trailing_zeros k x) k)
-    (λ e. ltb-true (count_trailing_zeros k x) k e)
-    (λ e. no (low_one k x p h) (digit_past x k (count_trailing_zeros k x) h (ltb-false (count_trailing_zeros k x) k e)))

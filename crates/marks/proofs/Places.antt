@@ -1,33 +1,35 @@
 -- Marks at places. Assumes nothing.
--- Main laws: `cleared` a number set to 0 has no marks; `turned` a digit turned over is a mark turned over; `ahead_all`, `ahead_part` the marks from a place on, to the end of its number and up to a place there.
+-- Main laws: `cleared` numbers that are 0 have no marks; `turned` a digit turned over is a mark turned over; `ahead_all`, `ahead_part` the marks from a place on, to the end of its number and up to a place there.
 use mathlib.Core.Path.{◌≡◌, refl, sym, ap, ◌∙◌}
 use mathlib.Core.Bool.{Bool, true, false, ◌&&◌}
-use mathlib.Core.List.{List}
+use mathlib.Core.List.{List, ◌++◌}
 use Prim.Native.Nat.{ℕ, ◌+◌, ◌*◌, ◌/◌, ◌%◌, ◌^◌, ◌≤◌, ◌<◌}
 use native.Mathlib.Nat.{mod-lt}
 use native.Mathlib.Omega.{arith}
 use lib.Dec.{eqb}
-use lib.ListN.{length, get_or, set, length-set}
+use lib.ListN.{length, get_or, set, take, drop, replicate, length-replicate, get_or-append, get_or-replicate}
 use lib.Seq.{get_or-set_same, get_or-set_other}
 use lib.Bits.{bit_xor}
 use lib.Pow.{pow_pos}
 use borrow.Author.Tests.{eqb-true, eqb-false, eq-eqb, ne_eqb}
+use Rattle.std.proofs.Common.{length-take-le}
+use Rattle.std.specs.Int.{from_bool}
 use Rattle.tally.specs.Tally.{one, differ}
 use Rattle.tally.proofs.Test.{by_test}
 use Rattle.marks.specs.Marks.{digit, bit_at, Ahead}
 use Rattle.marks.proofs.Digits.{digit_zero, digit_shift, digit_past, digit_low, digit_flip, differ_none}
 
--- ---- one number is set to 0
-pub cleared : (m : List ℕ) (i : ℕ) → i < length m → ((p : ℕ) → p < 64 * i → bit_at m p ≡ false) → (p : ℕ) → p < 64 * (i + 1) → bit_at (set m i 0) p ≡ false
-unfolding bit_at
-cleared m i h q p l =
-    by_test (eqb (p / 64) i)
-    (λ e.
-    let s : p / 64 ≡ i = eqb-true (p / 64) i e in
-    rw s (ap (λ (z : ℕ). digit z (p % 64)) (get_or-set_same m i 0 0 h) ∙ digit_zero (p % 64)))
-    (λ e.
-    ap (λ (z : ℕ). digit z (p % 64)) (get_or-set_other m i (p / 64) 0 0 (eqb-false (p / 64) i e))
-    ∙ q p (omega (arith, eqb-false (p / 64) i e)))
+-- ---- the first n numbers are 0
+module _ (m s : List ℕ) (n : ℕ) (h : n ≤ length m) (e : s ≡ replicate (length (take n m)) 0) where
+  first_length : length s ≡ n
+  first_length = rw (e, length-replicate) (length-take-le n m h)
+
+  pub cleared : (p : ℕ) → p < 64 * n → bit_at (s ++ drop n m) p ≡ false
+  unfolding bit_at
+  cleared p l =
+      let i : p / 64 < n = omega arith in
+      ap (λ (z : ℕ). digit z (p % 64)) (get_or-append s (drop n m) 0 (p / 64) (omega (arith, first_length)) ∙ rw e (get_or-replicate (length (take n m)) (p / 64) 0 0 (omega (arith, length-take-le n m h))))
+      ∙ digit_zero (p % 64)
 
 -- ---- one mark is turned over, or none
 and_none : (b : Bool) → false ≡ (b && false)
@@ -55,13 +57,15 @@ flipped m p b h q =
     ∙ differ_none (bit_at m q)
     ∙ ap (differ (bit_at m q)) (and_none b ∙ ap (λ (c : Bool). b && c) (sym (ne_eqb q p (λ t. eqb-false (q / 64) a e (ap (λ (z : ℕ). z / 64) t))))))
 
+-- 1 for true, as the machine has it
+pub one_from : (b : Bool) → from_bool b ≡ one b
+one_from true = refl
+one_from false = refl
+
 -- the same with the digit as the machine has it
-pub turned : (m : List ℕ) (p v : ℕ) (b : Bool) → length m ≡ 65536 → p < 4194304 → v ≡ one b * 2 ^ (p % 64)
-    → (length (set m (p / 64) (bit_xor (get_or m (p / 64) 0) v)) ≡ 65536) × ((q : ℕ) → bit_at (set m (p / 64) (bit_xor (get_or m (p / 64) 0) v)) q ≡ differ (bit_at m q) (b && eqb q p))
-turned m p v b l h e = (
-  length-set m (p / 64) (bit_xor (get_or m (p / 64) 0) v) ∙ l,
-  λ q. ap (λ (z : ℕ). bit_at (set m (p / 64) (bit_xor (get_or m (p / 64) 0) z)) q) e ∙ flipped m p b (omega arith) q,
-)
+pub turned : (m : List ℕ) (p v : ℕ) (b : Bool) → p / 64 < length m → v ≡ one b * 2 ^ (p % 64) → (q : ℕ)
+    → bit_at (set m (p / 64) (bit_xor (get_or m (p / 64) 0) v)) q ≡ differ (bit_at m q) (b && eqb q p)
+turned m p v b h e q = ap (λ (z : ℕ). bit_at (set m (p / 64) (bit_xor (get_or m (p / 64) 0) z)) q) e ∙ flipped m p b h q
 
 -- ---- the marks from p on; v is the number that holds p's mark
 module _ (m : List ℕ) (p v : ℕ) (is : v ≡ get_or m (p / 64) 0) where

@@ -2,35 +2,24 @@
 #![tactic(auto)]
 
 ghost use Rattle.std.specs.Prelude.{◌≡◌, false, ◌&&◌, ℕ, ◌+◌, ◌*◌, ◌/◌, ◌≤◌, ◌<◌, eqb, length, get_or};
-ghost use Rattle.tally.specs.Tally.{one, differ};
+ghost use Rattle.tally.specs.Tally.{differ};
 ghost use Rattle.marks.specs.Marks.{bit_at, Ahead};
 
 // Takes the marks off the first 64·n places.
 pub fn clear(m: &mut [u64; 65536], n: usize)
-    requires { (length m.old ≡ 65536) × (n ≤ 65536) }
-    ensures { (length m.new ≡ 65536) × ((p : ℕ) → p < 64 * n → bit_at m.new p ≡ false) }
+    requires { n ≤ 65536 }
+    ensures { (p : ℕ) → p < 64 * n → bit_at m.new p ≡ false }
 {
-    let mut i = 0;
-    while i < n {
-        m[i] = 0;
-        i += 1;
-    }
-}
-
-// 1 for true.
-fn one_if(b: bool) -> u64
-    ensures { result ≡ one b }
-{
-    if b { 1 } else { 0 }
+    m[..n].fill(0);
 }
 
 // Turns the mark of place p over, if `on`.
 pub fn flip(m: &mut [u64; 65536], p: usize, on: bool)
-    requires { (length m.old ≡ 65536) × (p < 4194304) }
-    ensures { (length m.new ≡ 65536) × ((q : ℕ) → bit_at m.new q ≡ differ (bit_at m.old q) (on && eqb q p)) }
+    requires { p < 4194304 }
+    ensures { (q : ℕ) → bit_at m.new q ≡ differ (bit_at m.old q) (on && eqb q p) }
 {
     let a = p / 64;
-    m[a] = m[a] ^ (one_if(on) << (p % 64));
+    m[a] ^= u64::from(on) << (p % 64);
 }
 
 // The marks of the 64 places from 64·a on.

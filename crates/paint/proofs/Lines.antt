@@ -1,16 +1,16 @@
 -- The lines of a word list, from a place on. Assumes nothing.
--- Main laws: `rest_stop` no words before the next flag, at a flagged word; `part_before` line n is the line after the words before it; `before_found`, `before_skip`, `before_more` their number from another place on;
---   `start_here`, `start_none` where line n starts, by whether words are left; `run_more` one word more before the next flag;
+-- Main laws: `part_before` line n is the line after the words before it; `before_found`, `before_skip`, `before_more` their number from another place on;
+--   `start_here`, `start_none` where line n starts, by whether words are left;
 --   `whole_at` a line is its first word and those before the next flag.
 use mathlib.Core.Path.{◌≡◌, refl, sym, ap, ◌∙◌}
-use mathlib.Core.Bool.{Bool, true, false}
-use mathlib.Core.List.{List, [], ◌∷◌, ◌++◌}
+use mathlib.Core.Bool.{true, false}
+use mathlib.Core.List.{List, [], ◌∷◌}
 use Prim.Native.Nat.{ℕ, zero, suc, ◌+◌, ◌-◌, ◌≤◌, ◌<◌}
 use native.Mathlib.Numerals.{add-one}
 use native.Mathlib.Omega.{arith}
 use lib.ListN.{length, get_or, take, drop}
 use borrow.Author.Tests.{lt-ltb, le-ltb}
-use lib.Seq.{drop-cons, drop-length, take-suc, append_snoc}
+use lib.Seq.{drop-cons, drop-length}
 use Rattle.tally.proofs.Test.{by_test}
 use Rattle.matte.specs.Layout.{Layout}
 use Rattle.edgel.specs.Word.{flagged}
@@ -77,16 +77,9 @@ module _ (L : Layout) where
   unfolding words_before
   before_end n i s e = rw (e, drop-length s)
 
-  pub rest_end : (i : ℕ) (s : List ℕ) → i ≡ length s → rest L (drop i s) ≡ []
-  unfolding rest
-  rest_end i s e = rw (e, drop-length s)
-
   module _ (s : List ℕ) (i : ℕ) (h : i < length s) where
     here : drop i s ≡ get_or s i 0 ∷ drop (i + 1) s
     here = rw (add-one i) (drop-cons s i 0 h)
-
-    pub rest_stop : flagged L (get_or s i 0) ≡ true → rest L (drop i s) ≡ []
-    rest_stop e = ap (rest L) here ∙ rest_yes (get_or s i 0) (drop (i + 1) s) e
 
     pub before_found : flagged L (get_or s i 0) ≡ true → words_before L 0 (drop i s) ≡ 0
     before_found e = ap (words_before L 0) here ∙ before_yes (get_or s i 0) (drop (i + 1) s) e
@@ -99,12 +92,6 @@ module _ (L : Layout) where
 
     pub before_more : (n : ℕ) → flagged L (get_or s i 0) ≡ false → words_before L n (drop i s) ≡ words_before L n (drop (i + 1) s) + 1
     before_more n e = ap (words_before L n) here ∙ before_no n (get_or s i 0) (drop (i + 1) s) e
-
-    pub run_more : flagged L (get_or s i 0) ≡ false → rest L s ≡ take i s ++ rest L (drop i s) → rest L s ≡ take (i + 1) s ++ rest L (drop (i + 1) s)
-    run_more e q =
-        q
-        ∙ ap (λ (l : List ℕ). take i s ++ l) (ap (rest L) here ∙ rest_no (get_or s i 0) (drop (i + 1) s) e)
-        ∙ rw (add-one i, take-suc s i 0 h) (sym (append_snoc (take i s) (get_or s i 0) (rest L (drop (suc i) s))))
 
     pub whole_at : (r e : ℕ) → rest L (drop (i + 1) s) ≡ take r (drop (i + 1) s) → e ≡ suc r → take e (drop i s) ≡ whole L (drop i s)
     unfolding whole

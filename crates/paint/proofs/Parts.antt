@@ -1,5 +1,5 @@
 -- All lines of a word list. Assumes nothing.
--- Main laws: `part_empty` a line past the last is empty; `part_some` any other is not; `part_exact` the two together; `part_nowhere` a line past the last starts at 0; `part_there` as many words as it has, from its start on, are the line; `parts_all` the lines one after the other are the list from its first flag on.
+-- Main laws: `part_empty` a line past the last is empty; `part_some` any other is not; `part_exact` the two together; `part_nowhere` a line past the last starts at 0; `rest_take` the words before the next flag are as many as stand before it; `part_there` as many words as it has, from its start on, are the line; `parts_all` the lines one after the other are the list from its first flag on.
 use mathlib.Core.Path.{◌≡◌, refl, sym, ap, ◌∙◌}
 use mathlib.Core.Bool.{true, false}
 use mathlib.Core.List.{List, [], ◌∷◌, ◌++◌}
@@ -122,7 +122,7 @@ module _ (L : Layout) where
       (λ e. lt-ltb 0 (length (part L n ws)) (part_some n ws (ltb-true n (tally (flagged L) ws) e)) ∙ sym e)
       (λ e. rw (part_empty n ws (ltb-false n (tally (flagged L) ws) e)) (sym e))
 
-  rest_take : (ws : List ℕ) → rest L ws ≡ take (first_at (flagged L) ws) ws
+  pub rest_take : (ws : List ℕ) → rest L ws ≡ take (first_at (flagged L) ws) ws
   unfolding rest first_at
   rest_take [] = refl
   rest_take (u ∷ ws) =

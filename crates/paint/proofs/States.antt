@@ -1,6 +1,6 @@
 -- The state of a sample at a level is what its words make it. Assumes nothing.
--- Main laws: `state_is` running along the turned edgels of a row counts the words left of the sample; `stacked_is` so a sample after all levels is the painted one; `painting_list` painted over blank samples,
---   they are the painting.
+-- Main laws: `state_is` running along the turned edgels of a row counts the words left of the sample; `stacked_is` so a sample after all levels is the painted one; `painting_list` all of them are
+--   the painting.
 use mathlib.Core.Path.{◌≡◌, refl, sym, ap, ◌∙◌}
 use mathlib.Core.Bool.{Bool, true, false, ◌&&◌}
 use mathlib.Core.List.{List, [], ◌∷◌, ◌++◌}
@@ -106,9 +106,8 @@ module _ (L : Layout) (w v : ℕ) (ks ws : List ℕ) (z : 0 < w) where
       let m : i % w < w = mod-lt i z in
       tally_alike _ _ (λ k. state_is L w v ks ws (i / w) k (ltb k v) (i % w) (omega arith)) ks
 
-  pub painting_list : (h : ℕ) (d b e : List ℕ) → w * h ≤ length d → Filled (λ i. 0) d (w * h) b → Filled (stacked L w v ks ws) b (w * h) e
-      → e ≡ painting L w h v ks ws ++ drop (w * h) d
+  pub painting_list : (h : ℕ) (d e : List ℕ) → w * h ≤ length d → Filled (stacked L w v ks ws) d (w * h) e → e ≡ painting L w h v ks ws ++ drop (w * h) d
   unfolding painting
-  painting_list h d b e l B E =
+  painting_list h d e l E =
       filled_list (λ i. painted L w v ks ws (i % w) (i / w)) d (w * h) e
-      (record { long = E.long ∙ B.long; done = λ i p. E.done i p ∙ stacked_is i; same = λ i p. E.same i p ∙ B.same i p }) l
+      (record { long = E.long; done = λ i p. E.done i p ∙ stacked_is i; same = E.same }) l

@@ -1,6 +1,5 @@
 -- The words left of a sample on its row, by their places. Assumes nothing.
--- Main laws: `span_west` the places from a row's start on are those of the row's columns; `span_vertical`, `span_before`, `span_in`, `span_after` one code;
---   `west_none`, `west_le`, `west_more`, `west_end` the words of a list counted.
+-- Main laws: `span_west` the places from a row's start on are those of the row's columns; `west_none`, `west_le`, `west_more`, `west_end` the words of a list counted.
 use mathlib.Core.Path.{◌≡◌, ap, ◌∙◌}
 use mathlib.Core.Bool.{Bool, ◌&&◌}
 use mathlib.Core.List.{List}
@@ -10,7 +9,8 @@ use native.Mathlib.Omega.{arith}
 use lib.Dec.{eqb, ltb, leb}
 use lib.ListN.{length, get_or, take}
 use lib.Arith.{digits_div, digits_mod}
-use borrow.Author.Tests.{eqb-true, ltb-true, leb-true, eq-eqb, ne_eqb, lt-ltb, le-ltb, le-leb, lt-leb}
+use borrow.Author.Tests.{eqb-true, ltb-true, leb-true, eq-eqb, lt-ltb, le-leb}
+use Rattle.std.specs.Int.{from_bool}
 use Rattle.tally.specs.Tally.{one, odd, tally}
 use Rattle.tally.proofs.Test.{iff, and_1, and_2, both, one_le}
 use Rattle.matte.specs.Layout.{eight}
@@ -19,6 +19,7 @@ use Rattle.edgel.specs.Edgel.{horizontal}
 use Rattle.edgel.specs.Beside.{west_of}
 use Rattle.paint.specs.Span.{in_span}
 use Rattle.paint.specs.Member.{inside}
+use Rattle.marks.proofs.Places.{one_from}
 use Rattle.layer.proofs.Takes.{take_none, take_more, take_le, take_end}
 
 module _ (w x y : ℕ) (l : x ≤ w) (p : ℕ) where
@@ -45,23 +46,6 @@ pub span_west : (w x y c : ℕ) → x ≤ w → in_span (y * w) x c ≡ west_of 
 unfolding in_span west_of
 span_west w x y c l = ap (λ (b : Bool). horizontal c && b) (in_row w x y l (c / 2))
 
-module _ (lo x c : ℕ) where
-  pub span_vertical : (c % 2 ≡ 0 → ⊥) → 0 ≡ one (in_span lo x c)
-  unfolding in_span
-  span_vertical e = simp (ne_eqb (c % 2) 0 e)
-
-  pub span_before : c % 2 ≡ 0 → c / 2 < lo → 0 ≡ one (in_span lo x c)
-  unfolding in_span
-  span_before e a = simp (eq-eqb (c % 2) 0 e, lt-leb lo (c / 2) a)
-
-  pub span_in : c % 2 ≡ 0 → lo ≤ c / 2 → c / 2 < lo + x → 1 ≡ one (in_span lo x c)
-  unfolding in_span
-  span_in e a b = simp (eq-eqb (c % 2) 0 e, le-leb lo (c / 2) a, lt-ltb (c / 2) (lo + x) b)
-
-  pub span_after : c % 2 ≡ 0 → lo ≤ c / 2 → lo + x ≤ c / 2 → 0 ≡ one (in_span lo x c)
-  unfolding in_span
-  span_after e a b = simp (eq-eqb (c % 2) 0 e, le-leb lo (c / 2) a, le-ltb (c / 2) (lo + x) b)
-
 -- ---- counting the words of a list
 module _ (w x y : ℕ) (ws : List ℕ) where
   abbrev west : ℕ → Bool
@@ -70,13 +54,13 @@ module _ (w x y : ℕ) (ws : List ℕ) where
   pub west_none : 0 ≡ tally (λ u. west_of w x y (code_of eight u)) (take 0 ws)
   west_none = take_none west ws
 
-  pub west_le : (i n o c lo : ℕ) → n ≡ tally (λ u. west_of w x y (code_of eight u)) (take i ws) → o ≡ one (in_span lo x c) → n + o ≤ i + 1
-  west_le i n o c lo q e = omega (arith, take_le west ws i, one_le (in_span lo x c))
+  pub west_le : (i n o : ℕ) (b : Bool) → n ≡ tally (λ u. west_of w x y (code_of eight u)) (take i ws) → o ≡ from_bool b → n + o ≤ i + 1
+  west_le i n o b q e = omega (arith, take_le west ws i, e, one_from b, one_le b)
 
-  pub west_more : x ≤ w → (i n o c : ℕ) → i < length ws → n ≡ tally (λ u. west_of w x y (code_of eight u)) (take i ws) → c ≡ code_of eight (get_or ws i 0) → o ≡ one (in_span (y * w) x c)
+  pub west_more : x ≤ w → (i n o c : ℕ) (b : Bool) → i < length ws → n ≡ tally (λ u. west_of w x y (code_of eight u)) (take i ws) → c ≡ code_of eight (get_or ws i 0) → b ≡ in_span (y * w) x c → o ≡ from_bool b
       → n + o ≡ tally (λ u. west_of w x y (code_of eight u)) (take (i + 1) ws)
-  west_more l i n o c h q s e =
-      let t : o ≡ one (west (get_or ws i 0)) = e ∙ ap one (span_west w x y c l ∙ ap (west_of w x y) s) in
+  west_more l i n o c b h q s d e =
+      let t : o ≡ one (west (get_or ws i 0)) = e ∙ one_from b ∙ ap one (d ∙ span_west w x y c l ∙ ap (west_of w x y) s) in
       omega (arith, take_more west ws i h)
 
   pub west_end : (i n : ℕ) → i ≡ length ws → n ≡ tally (λ u. west_of w x y (code_of eight u)) (take i ws) → odd n ≡ inside eight w ws x y

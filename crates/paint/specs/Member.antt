@@ -1,8 +1,8 @@
 -- Membership of a sample in a line. Assumes nothing.
 -- Definitions: `inside` a sample is inside a line of words; `member_rows`, `member_verdict`, `member_answer` the call.
-use Rattle.std.specs.Prelude.{Bool, true, false, not, ◌&&◌, List, [], ◌∷◌, ℕ, ltb, length}
+use Rattle.std.specs.Prelude.{Bool, false, not, ◌&&◌, List, [], ◌∷◌, ℕ, ltb, length}
 use Rattle.tally.specs.Tally.{odd, tally}
-use Rattle.refuse.specs.declared.Verdict.{Verdict}
+use Rattle.refuse.specs.Refusal.{Verdict}
 use Rattle.matte.specs.Layout.{Layout}
 use Rattle.refuse.specs.Refusal.{Row, verdict, row, answer, afterwards, sides_row}
 use Rattle.edgel.specs.Word.{code_of}

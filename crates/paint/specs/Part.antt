@@ -1,6 +1,6 @@
 -- The lines of any word list. Assumes nothing.
 -- Definitions: `rest` the words before the next flagged one; `part` line n; `words_before` the number of words before it; `part_start` its place; `word_on` the address some words on.
-use Rattle.std.specs.Prelude.{Bool, true, false, cond, List, [], ◌∷◌, ℕ, zero, suc, ◌+◌, ◌*◌, ltb, length}
+use Rattle.std.specs.Prelude.{true, false, cond, List, [], ◌∷◌, ℕ, zero, suc, ◌+◌, ◌*◌, ltb, length}
 use Rattle.matte.specs.Layout.{Layout}
 use Rattle.edgel.specs.Word.{flagged}
 

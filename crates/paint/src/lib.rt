@@ -1,22 +1,21 @@
 // Line part, membership and painting back.
 #![tactic(auto)]
 
-ghost use Rattle.std.specs.Prelude.{◌≡◌, true, not, ◌&&◌, [], ◌∷◌, ◌+◌, ◌*◌, ◌≤◌, ◌<◌, ltb, length, take, drop};
-ghost use Rattle.tally.specs.Tally.{one};
+ghost use Rattle.std.specs.Prelude.{◌≡◌, true, not, ◌&&◌, [], ◌∷◌, ◌+◌, ◌*◌, ◌≤◌, ◌<◌, ltb, length, IfOk};
 ghost use Rattle.matte.specs.Layout.{eight};
 ghost use Rattle.matte.specs.Picture.{levels_fit};
 ghost use Rattle.refuse.specs.Refusal.{row, verdict, sides_row, levels_row};
 ghost use Rattle.words.specs.Fit.{codes_row, words_fit_row};
-ghost use Rattle.refuse.specs.Shape.{Sides};
-ghost use Rattle.paint.specs.Part.{rest, part, words_before, part_start, word_on};
-ghost use Rattle.paint.specs.Span.{whole, in_span};
+ghost use Rattle.refuse.specs.Told.{verdict_of};
+ghost use Rattle.paint.specs.Part.{part, words_before, part_start, word_on};
+ghost use Rattle.paint.specs.Span.{in_span};
 ghost use Rattle.paint.specs.Member.{inside, member_answer};
 ghost use Rattle.paint.specs.Paint.{PaintCall};
 
 use edgel::{code_of, flagged};
-use layer::{add_levels, blank};
-use refuse::{Answer, Verdict, area, row_verdict, sides_verdict, size_verdict};
-use words::{first_bad_code, first_bad_word};
+use layer::add_levels;
+use refuse::{Answer, Reason, Refusal, Size, row_verdict, sides_verdict, size_verdict};
+use words::{first_bad_code, first_bad_word, run_of};
 
 // The answer of membership.
 #[repr(C)]
@@ -31,17 +30,15 @@ fn words_before(words: &[u32], n: usize) -> usize
     ensures { (result ≤ length words.now) × (result ≡ words_before eight n words.now) }
 {
     let mut left = n;
-    let mut i = 0;
-    while i < words.len() {
-        if flagged(words[i]) {
+    for (i, u) in words.iter().enumerate() {
+        if flagged(*u) {
             if left == 0 {
                 return i;
             }
             left -= 1;
         }
-        i += 1;
     }
-    i
+    words.len()
 }
 
 // Where line n starts, 0 where there is none.
@@ -53,20 +50,6 @@ pub fn start_of(words: &[u32], n: usize) -> usize
         return 0;
     }
     a
-}
-
-// How many words stand before the next flagged one.
-fn run_of(s: &[u32]) -> usize
-    ensures { (result ≤ length s.now) × (rest eight s.now ≡ take result s.now) }
-{
-    let mut i = 0;
-    while i < s.len() {
-        if flagged(s[i]) {
-            return i;
-        }
-        i += 1;
-    }
-    i
 }
 
 // Line n of a word list, a part of that list itself; empty, at the list's start, where there is none.
@@ -82,53 +65,44 @@ pub fn line_part(words: &[u32], n: usize) -> &[u32]
     &words[0..0]
 }
 
-// 1 for a horizontal code whose place is among the x places from lo on, else 0.
-fn span_one(lo: usize, x: usize, code: u32) -> usize
+// A horizontal code whose place is among the x places from lo on. It is asked of every word of a line, so there is no branch in it.
+fn in_span(lo: usize, x: usize, code: u32) -> bool
     requires { (lo ≤ 4194304) × (x ≤ 2048) }
-    ensures { result ≡ one (in_span lo x code) }
+    ensures { result ≡ in_span lo x code }
 {
-    if code % 2 != 0 {
-        return 0;
-    }
     let p = (code / 2) as usize;
-    if p < lo {
-        return 0;
-    }
-    if p < lo + x {
-        return 1;
-    }
-    0
+    (code % 2 == 0) & ((lo <= p) & (p < lo + x))
 }
 
 // An odd number of the words is horizontal, on row y, in a column below x.
-fn odd_west(w: usize, ws: &[u32], x: usize, y: usize) -> bool
-    requires { (0 < w) × (w ≤ 2048) × (x ≤ w) × (y ≤ 2048) }
-    ensures { result ≡ inside eight w ws.now x y }
+fn odd_west(size: Size, ws: &[u32], x: usize, y: usize) -> bool
+    requires { (x < size.width) × (y < size.height) }
+    ensures { result ≡ inside eight size.width ws.now x y }
 {
-    let lo = y * w;
+    let lo = y * size.width;
     let mut n = 0;
-    let mut i = 0;
-    while i < ws.len() {
-        n += span_one(lo, x, code_of(ws[i]));
-        i += 1;
+    for u in ws {
+        n += usize::from(in_span(lo, x, code_of(*u)));
     }
     n % 2 == 1
 }
 
 // The first refusal of 1 8 11 that applies; `count` is the number of the line's words.
-fn member_verdict(w: usize, h: usize, words: &[u32], count: usize, x: usize, y: usize) -> Verdict
-    ensures { (result ≡ verdict (sides_row w h ∷ codes_row eight w h words.now ∷ row 11 (not (ltb 0 count && (ltb x w && ltb y h))) ∷ [])) × (result.number ≡ 0 → (Sides w h) × (x < w) × (y < h)) }
+fn member_verdict(
+    w: usize,
+    h: usize,
+    words: &[u32],
+    count: usize,
+    x: usize,
+    y: usize,
+) -> Result<Size, Refusal>
+    ensures { (verdict_of result ≡ verdict (sides_row w h ∷ codes_row eight w h words.now ∷ row 11 (not (ltb 0 count && (ltb x w && ltb y h))) ∷ [])) × IfOk result (λ s. (s.width ≡ w) × (s.height ≡ h) × (x < w) × (y < h)) }
 {
-    let v = sides_verdict(w, h);
-    if v.number != 0 {
-        return v;
-    }
-    let i = first_bad_code(w, h, words);
-    let u = row_verdict(8, i < words.len(), i);
-    if u.number != 0 {
-        return u;
-    }
-    row_verdict(11, !((0 < count) & ((x < w) & (y < h))), 0)
+    let size = sides_verdict(w, h)?;
+    let i = first_bad_code(size, words);
+    row_verdict(Reason::UnfitWord, i < words.len(), i)?;
+    row_verdict(Reason::NotThere, !(0 < count && x < w && y < h), 0)?;
+    Ok(size)
 }
 
 // Whether the sample (x, y) is inside line n.
@@ -136,44 +110,33 @@ pub fn member(w: usize, h: usize, words: &[u32], n: usize, x: usize, y: usize) -
     ensures { result ≡ member_answer eight w h words.now n x y }
 {
     let p = line_part(words, n);
-    let v = member_verdict(w, h, words, p.len(), x, y);
-    if v.number != 0 {
-        return Membership {
-            answer: Answer {
-                number: v.number,
-                place: v.place,
-                words: 0,
-                lines: 0,
-            },
+    match member_verdict(w, h, words, p.len(), x, y) {
+        Err(r) => Membership {
+            answer: Answer::refused(r),
             inside: false,
-        };
-    }
-    let b = odd_west(w, p, x, y);
-    Membership {
-        answer: Answer {
-            number: 0,
-            place: 0,
-            words: 0,
-            lines: 0,
         },
-        inside: b,
+        Ok(size) => Membership {
+            answer: Answer::done(0, 0),
+            inside: odd_west(size, p, x, y),
+        },
     }
 }
 
 // The first refusal of 1 3 8 9 that applies.
-fn paint_verdict(w: usize, h: usize, levels: &[u8], words: &[u32], places: usize) -> Verdict
-    ensures { (result ≡ verdict (sides_row w h ∷ levels_row eight levels.now ∷ words_fit_row eight w h levels.now words.now ∷ row 9 (ltb places (w * h)) ∷ [])) × (result.number ≡ 0 → (Sides w h) × (levels_fit eight levels.now ≡ true) × (w * h ≤ places)) }
+fn paint_verdict(
+    w: usize,
+    h: usize,
+    levels: &[u8],
+    words: &[u32],
+    places: usize,
+) -> Result<Size, Refusal>
+    ensures { (verdict_of result ≡ verdict (sides_row w h ∷ levels_row eight levels.now ∷ words_fit_row eight w h levels.now words.now ∷ row 9 (ltb places (w * h)) ∷ [])) × IfOk result (λ s. (s.width ≡ w) × (s.height ≡ h) × (levels_fit eight levels.now ≡ true) × (w * h ≤ places)) }
 {
-    let v = size_verdict(w, h, levels);
-    if v.number != 0 {
-        return v;
-    }
-    let i = first_bad_word(w, h, levels, words);
-    let u = row_verdict(8, i < words.len(), i);
-    if u.number != 0 {
-        return u;
-    }
-    row_verdict(9, places < area(w, h), 0)
+    let size = size_verdict(w, h, levels)?;
+    let i = first_bad_word(size, levels, words);
+    row_verdict(Reason::UnfitWord, i < words.len(), i)?;
+    row_verdict(Reason::Room, places < size.area(), 0)?;
+    Ok(size)
 }
 
 // The samples that the words paint, with v on the border, in the first w·h places of `room`.
@@ -187,21 +150,11 @@ pub fn paint_words(
 ) -> Answer
     ensures { PaintCall eight w h v levels.now words.now room.old result room.new }
 {
-    let p = paint_verdict(w, h, levels, words, room.len());
-    if p.number != 0 {
-        return Answer {
-            number: p.number,
-            place: p.place,
-            words: 0,
-            lines: 0,
-        };
-    }
-    blank(room, area(w, h));
-    add_levels(w, h, v, levels, words, room);
-    Answer {
-        number: 0,
-        place: 0,
-        words: 0,
-        lines: 0,
+    match paint_verdict(w, h, levels, words, room.len()) {
+        Err(r) => Answer::refused(r),
+        Ok(size) => {
+            add_levels(size, v, levels, words, room);
+            Answer::done(0, 0)
+        }
     }
 }

@@ -1,5 +1,6 @@
 pub mod Witness
 pub mod Seen
+pub mod Adds
 pub mod Edge
 pub mod Rounds
 pub mod Halves

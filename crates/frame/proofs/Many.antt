@@ -10,8 +10,7 @@ use lib.ListN.{length}
 use Rattle.matte.specs.Picture.{Picture, picture, on_border}
 use Rattle.refuse.specs.Shape.{Sides}
 use Rattle.frame.specs.Frame.{border_samples}
-use Rattle.frame.specs.Counts.{seen}
-use Rattle.frame.proofs.Seen.{seen_none, seen_one, seen_off}
+use Rattle.frame.proofs.Seen.{seen, seen_none, seen_one, seen_off}
 use Rattle.frame.proofs.Edge.{off_middle}
 use Rattle.frame.proofs.Rounds.{rows_le, first_on, ends_on, last_on}
 

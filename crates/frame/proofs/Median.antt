@@ -18,8 +18,7 @@ use Rattle.matte.specs.Layout.{Layout}
 use Rattle.matte.specs.Picture.{Picture, picture, at, on_border}
 use Rattle.refuse.specs.Shape.{Sides}
 use Rattle.frame.specs.Frame.{border_samples, median}
-use Rattle.frame.specs.Counts.{seen}
-use Rattle.frame.proofs.Seen.{seen_none, seen_on, seen_still}
+use Rattle.frame.proofs.Seen.{seen, seen_none, seen_on, seen_still}
 use Rattle.frame.proofs.Halves.{at_most}
 use Rattle.frame.proofs.Many.{border_many}
 use Rattle.frame.proofs.Sort.{sort, sort_from, sort_tally, sort_long, enough, few}

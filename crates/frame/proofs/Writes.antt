@@ -1,11 +1,14 @@
 -- The samples of the picture with one value on its border. Assumes nothing.
--- Main laws: `framing_on`, `framing_off` the value at a border place and elsewhere; `row_ends` a row copied whole, then its ends written over; `framed_list` written whole, it is the framed picture.
+-- Main laws: `framing_on`, `framing_off` the value at a border place and elsewhere; `filled_run` a run written at once; `row_ends` a row copied whole, then its ends written over; `framed_list` written whole, it is the framed picture.
 use mathlib.Core.Path.{◌≡◌, sym, ap, ◌∙◌}
 use mathlib.Core.Bool.{Bool, true, false, cond}
 use mathlib.Core.List.{List, ◌++◌}
 use Prim.Native.Nat.{ℕ, ◌+◌, ◌-◌, ◌*◌, ◌≤◌, ◌<◌}
 use native.Mathlib.Omega.{arith}
 use lib.Dec.{eqb, ltb}
+use Rattle.std.proofs.Common.{rules}
+use Rattle.std.proofs.lemmas.List.{places}
+use borrow.Rule.Slice.PartMut.{put_mid}
 use lib.ListN.{length, get_or, drop, set, length-set}
 use lib.Seq.{get_or-set_same, get_or-set_other}
 use borrow.Author.Tests.{eqb-true, eqb-false, ltb-true, ltb-false, lt-ltb, le-ltb}
@@ -26,6 +29,17 @@ module _ (w h v : ℕ) (px : List ℕ) (i : ℕ) where
   pub framing_off : on_border w h i ≡ false → get_or px i 0 ≡ framing w h v px i
   unfolding framing
   framing_off e = sym (ap (λ (b : Bool). cond b v (get_or px i 0)) e)
+
+-- a run written at once, up to n
+module _ (f : ℕ → ℕ) (d e ys : List ℕ) (a k n : ℕ) where
+  pub filled_run : Filled f d a e → a + k ≡ n → n ≤ length e → length ys ≡ k → ((j : ℕ) → a ≤ j → j < n → get_or ys (j - a) 0 ≡ f j) → Filled f d n (put_mid a k e ys)
+  filled_run U end room long h = record {
+    long = search (rules, places, U.long);
+    done = λ j l. by_test (ltb j a)
+        (λ t. let p : j < a = ltb-true j a t in let m : get_or (put_mid a k e ys) j 0 ≡ get_or e j 0 = search (rules, places) in m ∙ U.done j p)
+        (λ t. let p : a ≤ j = ltb-false j a t in let m : get_or (put_mid a k e ys) j 0 ≡ get_or ys (j - a) 0 = search (rules, places) in m ∙ h j p l);
+    same = λ j l. let m : get_or (put_mid a k e ys) j 0 ≡ get_or e j 0 = search (rules, places) in m ∙ U.same j (omega arith);
+  }
 
 module _ (F P : ℕ → ℕ) (d e₀ e : List ℕ) (i n v : ℕ) (some : i < n) (room : n ≤ length e) (U : Filled F d i e₀) where
   abbrev copied : ℕ → ℕ

@@ -1,13 +1,8 @@
 -- The border samples counted by one half of the byte at a time, and the median's halves read from the counts. Assumes nothing.
--- Definitions: `seen` the border samples before a place; `head_of`, `heads` the upper half of a sample, or all of it; `counts` how often each of 16 values stands among the heads; `Run` a run of border places to count; `under` how many heads are
+-- Definitions: `head_of`, `heads` the upper half of a sample, or all of it; `counts` how often each of 16 values stands among the heads; `Added` the counts raised by those of a list; `Roomy` each counter can be raised so often; `under` how many heads are
 --   below a value; `halfway` the first entry of the counts up to which half are; `halves`, `half_from` the first of 16 values that half of the heads do not exceed.
-use Rattle.std.specs.Prelude.{◌≡◌, Bool, true, cond, List, [], ◌∷◌, ℕ, suc, ◌+◌, ◌*◌, ◌/◌, ◌≤◌, ◌<◌, leb, ltb, length, get_or}
-use Rattle.tally.specs.Tally.{sum, build, count, tally, first_from, flat, pick}
-use Rattle.matte.specs.Picture.{Picture, picture, at, on_border}
-
--- the border samples at places below i, row by row (01, Framing)
-unfoldable pub seen : Picture → ℕ → List ℕ
-seen P i = flat (pick (on_border P.w P.h) (λ j. at P j ∷ []) 0 i)
+use Rattle.std.specs.Prelude.{◌≡◌, Bool, cond, List, [], ◌∷◌, ℕ, suc, ◌+◌, ◌*◌, ◌/◌, ◌≤◌, ◌<◌, leb, ltb, length, get_or}
+use Rattle.tally.specs.Tally.{sum, build, count, tally, first_from}
 
 -- the sample, or its upper half (02, R-3)
 abbrev pub head_of : Bool → ℕ → ℕ
@@ -22,13 +17,13 @@ heads whole (s ∷ l) = head_of whole s ∷ heads whole l
 unfoldable pub counts : Bool → ℕ → List ℕ → List ℕ
 counts whole top l = build (λ v. count v (heads whole l)) (16 * top) 16
 
--- a run of border places from `from` up to `to`, with the counts of all border samples before it
-pub record Run (whole : Bool) (top w h : ℕ) (px : List ℕ) (from to : ℕ) (t : List ℕ) : Type 0 where
-  pub small : length px ≤ 4194304
-  pub order : from ≤ to
-  pub within : to ≤ length px
-  pub held : t ≡ counts whole top (seen (picture w h px) from)
-  pub border : (j : ℕ) → from ≤ j → j < to → on_border w h j ≡ true
+-- u is t, each entry raised by how often its value stands among the heads of l
+abbrev pub Added : Bool → ℕ → List ℕ → List ℕ → List ℕ → Type 0
+Added whole top l t u = (d : ℕ) → d < 16 → get_or u d 0 ≡ get_or t d 0 + count (16 * top + d) (heads whole l)
+
+-- each of 16 entries can be raised n times
+abbrev pub Roomy : ℕ → List ℕ → Type 0
+Roomy n t = (d : ℕ) → d < 16 → get_or t d 0 + n ≤ 4194304
 
 -- how many heads are below v
 unfoldable pub under : Bool → List ℕ → ℕ → ℕ

@@ -1,9 +1,9 @@
 -- Framing: the border set to its lower median. Assumes nothing.
 -- Definitions: `border_samples` the samples on the border; `median` the lower median of a list; `framed` the picture with that border; `frame_rows`, `frame_verdict`, `frame_answer`, `frame_room`, `FrameCall` the call.
-use Rattle.std.specs.Prelude.{◌≡◌, Bool, cond, List, [], ◌∷◌, ◌++◌, ℕ, suc, ◌+◌, ◌*◌, leb, length, drop}
+use Rattle.std.specs.Prelude.{◌≡◌, cond, List, [], ◌∷◌, ◌++◌, ℕ, ◌*◌, leb, length, drop}
 use Rattle.tally.specs.Tally.{tally, build, first_from, flat, pick}
 use Rattle.refuse.specs.declared.Answer.{Answer}
-use Rattle.refuse.specs.declared.Verdict.{Verdict}
+use Rattle.refuse.specs.Refusal.{Verdict}
 use Rattle.matte.specs.Layout.{Layout}
 use Rattle.matte.specs.Picture.{Picture, size, at, on_border}
 use Rattle.refuse.specs.Refusal.{Row, verdict, answer, afterwards, room_row}

@@ -1,6 +1,6 @@
 -- The blocks of words. Assumes nothing.
--- Main laws: `blocks_length`; `blocks_append` some and then more; `blocks_drop` without the first; `two_blocks` two full blocks, `one_block` one; `stored_next` they are
---   stored next; `blocks_start`, `blocks_on` a file filled so.
+-- Main laws: `blocks_length`; `blocks_append` some and then more; `blocks_drop` without the first; `two_blocks` two full blocks, `one_block` one; `blocks_start`, `blocks_on`
+--   a file filled so.
 use mathlib.Core.Path.{◌≡◌, refl, sym, ap, ap₂, ◌∙◌}
 use mathlib.Core.List.{List, ◌++◌, append_assoc, append-nil}
 use Prim.Native.Nat.{ℕ, zero, suc, ◌+◌, ◌-◌, ◌*◌, ◌≤◌, min}
@@ -122,36 +122,24 @@ one_block ws y n i e m g =
     let q : e - 127 * i ≡ min 127 (length r) = omega (arith, length-drop (127 * i) ws) in
     g ∙ ap (λ (z : List ℕ). block n (pad (word_bytes z))) (part_127 r (e - 127 * i) q) ∙ sym (append-nil (block n (words127 r)))
 
--- j blocks y from block 1 + i on, stored in the file
-pub stored_next : (f y ws : List ℕ) (i j k r : ℕ) → r ≡ i + j → k ≡ 512 * j → y ≡ word_blocks (1 + i) j (drop (127 * i) ws)
-    → take (512 + 512 * i) f ++ (y ++ drop k (drop (512 + 512 * i) f))
-    ≡ take (512 + 512 * i) f ++ (word_blocks (1 + i) (r - i) (drop (127 * i) ws) ++ drop (512 * (r - i)) (drop (512 + 512 * i) f))
-stored_next f y ws i j k r d e g =
-    let n : j ≡ r - i = omega arith in
-    ap₂ (λ (l : List ℕ) (m : ℕ). take (512 + 512 * i) f ++ (l ++ drop m (drop (512 + 512 * i) f))) (g ∙ ap (λ (m : ℕ). word_blocks (1 + i) m (drop (127 * i) ws)) n) (e ∙ ap (λ (m : ℕ). 512 * m) n)
-
 module _ (was ws : List ℕ) where
   pub blocks_start : was ≡ (take 512 was ++ word_blocks 1 0 ws) ++ drop 512 was
   unfolding word_blocks
   blocks_start = sym (ap (λ (l : List ℕ). l ++ drop 512 was) (append-nil (take 512 was)) ∙ take-append-drop 512 was)
 
-  -- blocks 1 + i up to r, stored after the i before them
-  pub blocks_on : (b : List ℕ) (i r : ℕ) → 512 ≤ length was → i ≤ r → b ≡ (take 512 was ++ word_blocks 1 i ws) ++ drop (512 * (1 + i)) was
-      → take (512 + 512 * i) b ++ (word_blocks (1 + i) (r - i) (drop (127 * i) ws) ++ drop (512 * (r - i)) (drop (512 + 512 * i) b))
+  -- j blocks y from block 1 + i on, stored after the i before them
+  pub blocks_on : (b y : List ℕ) (i j k r : ℕ) → 512 ≤ length was → r ≡ i + j → k ≡ 512 * j → y ≡ word_blocks (1 + i) j (drop (127 * i) ws) → b ≡ (take 512 was ++ word_blocks 1 i ws) ++ drop (512 * (1 + i)) was
+      → take (512 * (1 + i)) b ++ (y ++ drop k (drop (512 * (1 + i)) b))
       ≡ (take 512 was ++ word_blocks 1 r ws) ++ drop (512 * (1 + r)) was
-  blocks_on b i r l h f =
+  blocks_on b y i j k r l c d e f =
       let x = take 512 was ++ word_blocks 1 i ws in
-      let y = word_blocks (1 + i) (r - i) (drop (127 * i) ws) in
-      let at = 512 + 512 * i in
-      let k = 512 * (r - i) in
-      let u : 512 * (1 + i) ≡ at = omega arith in
+      let at = 512 * (1 + i) in
       let v : at + k ≡ 512 * (1 + r) = omega arith in
-      let s : i + (r - i) ≡ r = omega arith in
       let lx : length x ≡ at = length-append (take 512 was) (word_blocks 1 i ws) ∙ omega (arith, length-take-le 512 was l, blocks_length 1 i ws) in
       ap (λ (z : List ℕ). take at b ++ (y ++ z)) (drop-drop k at b)
       ∙ sym (append_assoc (take at b) y (drop (at + k) b))
-      ∙ onto x y was b at k lx (f ∙ ap (λ (z : ℕ). x ++ drop z was) u)
+      ∙ onto x y was b at k lx f
       ∙ ap (λ (z : ℕ). (x ++ y) ++ drop z was) v
       ∙ ap (λ (z : List ℕ). z ++ drop (512 * (1 + r)) was)
       (append_assoc (take 512 was) (word_blocks 1 i ws) y
-      ∙ ap (λ (z : List ℕ). take 512 was ++ z) (sym (blocks_append 1 i (r - i) ws) ∙ ap (λ (z : ℕ). word_blocks 1 z ws) s))
+      ∙ ap (λ (z : List ℕ). take 512 was ++ z) (ap (λ (z : List ℕ). word_blocks 1 i ws ++ z) e ∙ sym (blocks_append 1 i j ws) ∙ ap (λ (z : ℕ). word_blocks 1 z ws) (sym c)))

@@ -4,17 +4,18 @@
 use mathlib.Core.Path.{◌≡◌, sym, ap, ap₂, ◌∙◌}
 use mathlib.Core.Bool.{Bool, true, false, not}
 use mathlib.Core.List.{List}
-use Prim.Native.Nat.{ℕ, ◌+◌, ◌*◌, ◌<◌}
+use Prim.Native.Nat.{ℕ, ◌+◌, ◌-◌, ◌*◌, ◌≤◌, ◌<◌}
 use native.Mathlib.Omega.{arith}
 use lib.Dec.{eqb}
 use lib.ListN.{take, drop}
-use lib.Seq.{take-take}
+use lib.Seq.{take-take, drop-drop}
 use borrow.Author.Tests.{eq-eqb, ne_eqb}
 use Rattle.tally.specs.Tally.{first_from}
 use Rattle.tally.proofs.First.{from_is}
 use Rattle.block.specs.Block.{num4, check}
 use Rattle.block.proofs.Bytes.{num4_take, num4_drop}
-use Rattle.olr.specs.Read.{blocks, check_fits}
+use Rattle.olr.specs.Read.{blocks, payload, check_fits}
+use Rattle.olr.proofs.Laid.{drop_part}
 
 pub check_part : (f : List ℕ) (i k : ℕ) (t : Bool) → k ≡ 512 → t ≡ eqb (num4 (take k (drop (512 * i) f)) 508) (check i (take 508 (take k (drop (512 * i) f)))) → t ≡ check_fits f i
 check_part f i k t e h =
@@ -23,15 +24,24 @@ check_part f i k t e h =
     ∙ ap (λ (n : ℕ). eqb (num4 (take n b) 508) (check i (take 508 (take n b)))) e
     ∙ ap₂ eqb (num4_take 512 b 508 (omega arith) ∙ num4_drop (512 * i) f 508) (ap (check i) (take-take 508 512 b (omega arith)))
 
--- the same from the sum s and the number v that the block has
-module _ (f : List ℕ) (i a k s v : ℕ) (e : a ≡ 512 * i) (d : k ≡ 508) (p : s ≡ check i (take k (drop a f))) (q : v ≡ num4 f (a + 508)) where
-  sum_told : eqb v s ≡ check_fits f i
-  sum_told = ap₂ eqb (q ∙ ap (λ (z : ℕ). num4 f (z + 508)) e) (p ∙ ap₂ (λ (y z : ℕ). check i (take y (drop z f))) d e)
+-- block j, at a in the k bytes from block i on: the same from its sum s and the number v that it has
+module _ (f : List ℕ) (i j a k s v : ℕ) (at : 512 * j ≡ 512 * i + a) (long : a + 512 ≤ k) (p : s ≡ check j (take 508 (drop a (take k (drop (512 * i) f))))) (q : v ≡ num4 (take k (drop (512 * i) f)) (a + 508)) where
+  part_payload : take 508 (drop a (take k (drop (512 * i) f))) ≡ payload f j
+  part_payload =
+      ap (take 508) (drop_part a k (drop (512 * i) f))
+      ∙ take-take 508 (k - a) (drop a (drop (512 * i) f)) (omega arith)
+      ∙ ap (take 508) (drop-drop a (512 * i) f ∙ ap (λ (n : ℕ). drop n f) (sym at))
 
-  pub sum_wrong : (v ≡ s → ⊥) → not (check_fits f i) ≡ true
+  part_number : num4 (take k (drop (512 * i) f)) (a + 508) ≡ num4 f (512 * j + 508)
+  part_number = num4_take k (drop (512 * i) f) (a + 508) (omega arith) ∙ num4_drop (512 * i) f (a + 508) ∙ ap (num4 f) (omega arith)
+
+  sum_told : eqb v s ≡ check_fits f j
+  sum_told = ap₂ eqb (q ∙ part_number) (p ∙ ap (check j) part_payload)
+
+  pub sum_wrong : (v ≡ s → ⊥) → not (check_fits f j) ≡ true
   sum_wrong h = ap not (sym sum_told ∙ ne_eqb v s h)
 
-  pub sum_right : v ≡ s → not (check_fits f i) ≡ false
+  pub sum_right : v ≡ s → not (check_fits f j) ≡ false
   sum_right h = ap not (sym sum_told ∙ eq-eqb v s h)
 
 module _ (f : List ℕ) (i : ℕ) (before : (j : ℕ) → j < i → not (check_fits f j) ≡ false) where

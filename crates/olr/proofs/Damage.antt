@@ -15,7 +15,7 @@ use lib.Seq.{length-take-le, take-take}
 use borrow.Author.Tests.{lt-ltb, le-ltb, eqb-true, eqb-false, ne_eqb, not-false}
 use Rattle.tally.proofs.Test.{by_test}
 use Rattle.tally.proofs.First.{from_before}
-use Rattle.refuse.specs.declared.Verdict.{Verdict}
+use Rattle.refuse.specs.Refusal.{Verdict}
 use Rattle.refuse.specs.Refusal.{Row, row, row_at, verdict}
 use Rattle.refuse.proofs.Rows.{given, passed, unfit, refused_answer}
 use Rattle.block.specs.Damage.{block_at, block_fits, with_block}

@@ -1,4 +1,3 @@
-pub mod Chain
 pub mod Words
 pub mod Blocks
 pub mod Ascend
@@ -8,7 +7,6 @@ pub mod Zeros
 pub mod Checks
 pub mod Laid
 pub mod Taken
-pub mod Runs
 pub mod Read
 pub mod There
 pub mod Round

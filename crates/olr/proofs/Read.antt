@@ -1,7 +1,6 @@
 -- The refusals of reading, and the call. Assumes nothing.
 -- Definitions: `Readable` what a call that is not refused has; `r12` to `r6` the rows.
--- Main laws: `whole_blocks`, `readable`, `accepted` what a verdict of 0 says, `read_done` and back; `read_refused`, `read_taken` the call;
---   `read_long` a file that is not refused has a block.
+-- Main laws: `whole_blocks`, `readable`, `accepted` what a verdict of 0 says, `read_done` and back; `read_refused`, `read_taken` the call.
 use mathlib.Core.Path.{◌≡◌, refl, sym, ap, ap₂, ◌∙◌}
 use mathlib.Core.Bool.{Bool, true, false, not, ◌||◌}
 use mathlib.Core.List.{List, [], ◌∷◌, ◌++◌}
@@ -13,7 +12,7 @@ use borrow.Author.Tests.{le-ltb, ltb-false, eq-eqb, ne_eqb, eqb-true, eqb-false,
 use Rattle.tally.specs.Tally.{tally, first_at, first_from}
 use Rattle.tally.proofs.Test.{no}
 use Rattle.refuse.specs.declared.Answer.{Answer}
-use Rattle.refuse.specs.declared.Verdict.{Verdict}
+use Rattle.refuse.specs.Refusal.{Verdict}
 use Rattle.matte.specs.Layout.{eight}
 use Rattle.refuse.specs.Refusal.{Row, row, row_at, verdict, words_row, answer, afterwards}
 use Rattle.refuse.proofs.Rows.{passed, fit, clean, clean_fit, parted, done_answer, refused_answer, done_after, refused_after}
@@ -151,7 +150,3 @@ module _ (f : List ℕ) where
           },
           q ∙ ap (λ (k : ℕ). file_words f ++ drop k out) e ∙ sym (done_after T out (file_words f ++ drop (file_word_count f) out) z),
         )
-
-    -- what a call that is not refused hands to its parts
-    pub read_long : Readable out → 512 ≤ length f
-    read_long R = omega (arith, R.some, R.whole)

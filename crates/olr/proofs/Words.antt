@@ -1,13 +1,12 @@
 -- Words as bytes. Assumes nothing.
--- Main laws: `bytes_length`, `bytes_append`, `bytes_more` one word more; `bytes_start`, `bytes_put`, `bytes_full` a block filled word by word; `bytes_all` its
---   bytes are those of the words.
+-- Main laws: `bytes_length`, `bytes_append`, `bytes_more` one word more; `bytes_start`, `bytes_put` a block filled word by word.
 use mathlib.Core.Path.{◌≡◌, refl, sym, ap, ◌∙◌}
 use mathlib.Core.List.{List, [], ◌∷◌, ◌++◌, append_assoc, append-nil}
 use Prim.Native.Nat.{ℕ, ◌+◌, ◌*◌, ◌≤◌, ◌<◌}
 use native.Mathlib.Numerals.{add-one}
 use native.Mathlib.Omega.{arith}
 use lib.ListN.{length, get_or, take, drop, length-append}
-use lib.Seq.{take-suc, take_at, take_all, length-take-le}
+use lib.Seq.{take-suc, length-take-le}
 use Rattle.block.specs.Block.{le4}
 use Rattle.block.proofs.Put.{onto}
 use Rattle.olr.specs.File.{word_bytes}
@@ -49,9 +48,3 @@ module _ (ws was : List ℕ) where
       ∙ onto (word_bytes (take j ws)) (le4 (get_or ws j 0)) was b (4 * j) 4 (bytes_place j (omega arith)) e
       ∙ ap (λ (l : List ℕ). l ++ drop (4 * j + 4) was) (sym (bytes_more ws j h))
       ∙ ap (λ (m : ℕ). word_bytes (take (j + 1) ws) ++ drop m was) n
-
-  pub bytes_full : (b : List ℕ) (j : ℕ) → j ≡ length ws → b ≡ word_bytes (take j ws) ++ drop (4 * j) was → b ≡ word_bytes ws ++ drop (4 * length ws) was
-  bytes_full b j h e = e ∙ ap (λ (l : List ℕ). word_bytes l ++ drop (4 * j) was) (take_all j ws (omega arith)) ∙ ap (λ (n : ℕ). word_bytes ws ++ drop (4 * n) was) h
-
-  pub bytes_all : (b : List ℕ) → b ≡ word_bytes ws ++ drop (4 * length ws) was → take (4 * length ws) b ≡ word_bytes ws
-  bytes_all b e = ap (take (4 * length ws)) e ∙ take_at (word_bytes ws) (drop (4 * length ws) was) (4 * length ws) (bytes_length ws)

@@ -1,15 +1,14 @@
 -- Bytes due to be zero. Assumes nothing.
--- Main laws: `zeros_no`, `zeros_more`, `zeros_end` the test one byte at a time; `zeros_are` bytes that pass are zeros, `are_zeros` and back.
+-- Main laws: `zeros_all` the test is that every byte is 0; `zeros_are` bytes that pass are zeros, `are_zeros` and back.
 use mathlib.Core.Path.{◌≡◌, refl, sym, ap, ◌∙◌}
-use mathlib.Core.Bool.{Bool, true, false, not}
+use mathlib.Core.Bool.{Bool, true, false, not, ◌&&◌}
 use mathlib.Core.List.{List, [], ◌∷◌}
-use Prim.Native.Nat.{ℕ, zero, suc, ◌+◌, ◌<◌}
-use native.Mathlib.Numerals.{add-one}
+use Prim.Native.Nat.{ℕ, zero, suc, ◌+◌}
 use native.Mathlib.Omega.{arith}
 use lib.Dec.{eqb}
-use lib.ListN.{length, get_or, drop, replicate}
-use lib.Seq.{drop-cons, drop-length}
+use lib.ListN.{length, replicate}
 use borrow.Author.Tests.{eq-eqb, ne_eqb, eqb-true, eqb-false}
+use Rattle.std.specs.List.{list_all}
 use Rattle.tally.specs.Tally.{one, tally}
 use Rattle.tally.proofs.Test.{by_test, no}
 use Rattle.olr.specs.Read.{zeros}
@@ -35,16 +34,12 @@ none : zeros [] ≡ true
 unfolding tally
 none = refl
 
-module _ (s : List ℕ) (i : ℕ) where
-  pub zeros_no : i < length s → (get_or s i 0 ≡ 0 → ⊥) → zeros (drop i s) ≡ false
-  zeros_no h e = ap zeros (drop-cons s i 0 h) ∙ first_no (get_or s i 0) (drop (suc i) s) e
-
-  pub zeros_more : i < length s → get_or s i 0 ≡ 0 → zeros (drop i s) ≡ zeros (drop (i + 1) s)
-  zeros_more h e =
-      ap zeros (drop-cons s i 0 h) ∙ first_zero (get_or s i 0) (drop (suc i) s) e ∙ ap (λ (n : ℕ). zeros (drop n s)) (sym (add-one i))
-
-  pub zeros_end : i ≡ length s → zeros (drop i s) ≡ true
-  zeros_end e = ap (λ (n : ℕ). zeros (drop n s)) e ∙ ap zeros (drop-length s) ∙ none
+pub zeros_all : (l : List ℕ) → list_all (λ b. eqb b 0) l ≡ zeros l
+zeros_all [] = sym none
+zeros_all (x ∷ l) =
+    by_test (eqb x 0)
+    (λ t. ap (λ (b : Bool). b && list_all (λ b. eqb b 0) l) t ∙ zeros_all l ∙ sym (first_zero x l (eqb-true x 0 t)))
+    (λ t. ap (λ (b : Bool). b && list_all (λ b. eqb b 0) l) t ∙ sym (first_no x l (eqb-false x 0 t)))
 
 pub zeros_are : (l : List ℕ) → zeros l ≡ true → l ≡ replicate (length l) 0
 zeros_are [] e = refl

@@ -3,7 +3,7 @@
 --   `write_rows`, `write_verdict`, `write_answer`, `write_room`, `WriteCall` the call.
 use Rattle.std.specs.Prelude.{◌≡◌, List, [], ◌∷◌, ◌++◌, ℕ, zero, suc, ◌+◌, ◌*◌, ◌/◌, ltb, length, take, drop}
 use Rattle.refuse.specs.declared.Answer.{Answer}
-use Rattle.refuse.specs.declared.Verdict.{Verdict}
+use Rattle.refuse.specs.Refusal.{Verdict}
 use Rattle.matte.specs.Layout.{eight}
 use Rattle.refuse.specs.Refusal.{Row, verdict, row, row_at, answer, afterwards}
 use Rattle.refuse.specs.Shape.{size_rows}

@@ -3,7 +3,7 @@
 --   are; `after_levels`, `after_words` which those are; `laid_out` it keeps the layout; `read_rows`, `read_verdict`, `read_answer`, `read_words`, `ReadCall` the call.
 use Rattle.std.specs.Prelude.{◌≡◌, Bool, not, ◌&&◌, ◌||◌, cond, List, [], ◌∷◌, ◌++◌, ℕ, ◌+◌, ◌-◌, ◌*◌, ◌/◌, ◌%◌, eqb, ltb, leb, length, take, drop, get_or, replicate}
 use Rattle.tally.specs.Tally.{tally, build, first_from}
-use Rattle.refuse.specs.declared.Verdict.{Verdict}
+use Rattle.refuse.specs.Refusal.{Verdict}
 use Rattle.matte.specs.Layout.{eight}
 use Rattle.matte.specs.Picture.{side_fits, levels_fit}
 use Rattle.refuse.specs.Refusal.{Row, verdict, row, row_at, answer, afterwards, words_row}

@@ -8,10 +8,15 @@ ghost use Rattle.std.specs.Prelude.{◌≡◌};
 ghost use Rattle.olr.specs.File.{WriteCall};
 ghost use Rattle.olr.specs.Read.{ReadCall};
 
-use block::num4_at;
-use get::{read_verdict, stored_of, take_words};
+use get::{read_verdict, stored_of, take_words, word_count};
 use put::{put_head, put_words, write_verdict};
-use refuse::{Answer, answered};
+use refuse::Answer;
+
+// The first four bytes of a file.
+const LETTERS: [u8; 4] = *b"OLR1";
+
+// The words that a full block holds.
+const WORDS: usize = 127;
 
 // What reading hands back beside the words: sides, border value, number of levels, and the levels with zeros after the last.
 #[repr(C)]
@@ -36,32 +41,33 @@ pub fn write_file(
 ) -> Answer
     ensures { WriteCall w h v levels.now words.now file.old result file.new }
 {
-    let t = write_verdict(w, h, levels, words, &file[..]);
-    if t.number != 0 {
-        return answered(t, 0, 0);
-    }
-    put_head(&mut file[0..512], w, h, v, levels, words.len());
+    let size = match write_verdict(w, h, levels, words, &file[..]) {
+        Ok(size) => size,
+        Err(r) => return Answer::refused(r),
+    };
+    put_head(&mut file[0..512], size, v, levels, words.len());
     put_words(file, words);
-    answered(t, 0, 0)
+    Answer::done(0, 0)
 }
 
 // Reads a file: its words into the first places, and what else it says.
 pub fn read_file(file: &[u8], words: &mut [u32]) -> Stored
     ensures { ReadCall file.now words.old result words.new }
 {
-    let t = read_verdict(file, &words[..]);
-    if t.number != 0 {
-        let none = [0u8; 255];
-        return Stored {
-            answer: answered(t, 0, 0),
-            width: 0,
-            height: 0,
-            border: 0,
-            count: 0,
-            levels: none,
-        };
-    }
-    let n = num4_at(file, 12) as usize;
+    let file = match read_verdict(file, &words[..]) {
+        Ok(file) => file,
+        Err(r) => {
+            return Stored {
+                answer: Answer::refused(r),
+                width: 0,
+                height: 0,
+                border: 0,
+                count: 0,
+                levels: [0u8; 255],
+            };
+        }
+    };
+    let n = word_count(file);
     let lines = take_words(file, n, words);
     stored_of(file, n, lines)
 }

@@ -1,49 +1,48 @@
 // The parts of a file as it is written: the refusals, block 0, the blocks of words.
-ghost use Rattle.std.specs.Prelude.{◌≡◌, [], ◌∷◌, ◌++◌, ◌+◌, ◌-◌, ◌*◌, ◌≤◌, ◌<◌, min, length, take, drop};
+ghost use Rattle.std.specs.Prelude.{◌≡◌, [], ◌∷◌, ◌++◌, ◌+◌, ◌-◌, ◌*◌, ◌≤◌, ◌<◌, min, length, take, drop, IfOk};
 ghost use Rattle.block.specs.Block.{le2, le4, pad, block};
+ghost use Rattle.refuse.specs.Told.{verdict_of};
 ghost use Rattle.olr.specs.File.{blocks_for, letters, header, word_bytes, word_blocks, write_verdict};
 
-use block::{close, close_two, put2, put4};
-use refuse::{Verdict, row_verdict, size_verdict};
+use crate::{LETTERS, WORDS};
+use block::{BLOCK, close, close_two, put2, put4};
+use refuse::{Reason, Refusal, Size, row_verdict, size_verdict};
 use words::first_bad_word;
 
 // How many blocks n words take.
 pub fn blocks_for(n: usize) -> usize
-    requires { n ≤ 16777215 }
-    ensures { (result ≡ blocks_for n) × (result ≤ 132105) }
+    ensures { result ≡ blocks_for n }
 {
-    (n + 126) / 127
+    n.div_ceil(WORDS)
 }
 
-// Refusals 1 3 16 8 15, or 0 with none.
-pub fn write_verdict(w: usize, h: usize, levels: &[u8], words: &[u32], file: &[u8]) -> Verdict
-    ensures { result ≡ write_verdict w h 0 levels.now words.now file.now }
+// The first refusal of 1 3 16 8 15 that applies; the size where none does.
+pub fn write_verdict(
+    w: usize,
+    h: usize,
+    levels: &[u8],
+    words: &[u32],
+    file: &[u8],
+) -> Result<Size, Refusal>
+    ensures { (verdict_of result ≡ write_verdict w h 0 levels.now words.now file.now) × IfOk result (λ s. (s.width ≡ w) × (s.height ≡ h)) }
 {
-    let size = size_verdict(w, h, levels);
-    if size.number != 0 {
-        return size;
-    }
-    let many = row_verdict(16, 16777215 < words.len(), 0);
-    if many.number != 0 {
-        return many;
-    }
-    let bad = first_bad_word(w, h, levels, words);
-    let fit = row_verdict(8, bad < words.len(), bad);
-    if fit.number != 0 {
-        return fit;
-    }
+    let size = size_verdict(w, h, levels)?;
+    row_verdict(Reason::ManyWords, 16777215 < words.len(), 0)?;
+    let bad = first_bad_word(size, levels, words);
+    row_verdict(Reason::UnfitWord, bad < words.len(), bad)?;
     let needed = 512 * (1 + blocks_for(words.len()));
-    row_verdict(15, file.len() < needed, needed)
+    row_verdict(Reason::FileRoom, file.len() < needed, needed)?;
+    Ok(size)
 }
 
 // Letters and sides, 8 bytes.
-pub fn put_sides(s: &mut [u8], w: u32, h: u32)
+pub fn put_sides(s: &mut [u8], size: Size)
     requires { 8 ≤ length s.old }
-    ensures { s.new ≡ (letters ++ le2 w ++ le2 h) ++ drop 8 s.old }
+    ensures { s.new ≡ (letters ++ le2 size.width ++ le2 size.height) ++ drop 8 s.old }
 {
-    put4(s, 0, 827477071);
-    put2(s, 4, w);
-    put2(s, 6, h);
+    s[0..4].copy_from_slice(&LETTERS);
+    put2(s, 4, size.width as u32);
+    put2(s, 6, size.height as u32);
 }
 
 // Border value, number of levels, two zero bytes and word count, the next 8 bytes.
@@ -51,31 +50,20 @@ pub fn put_counts(s: &mut [u8], v: u8, count: u8, n: u32)
     requires { 16 ≤ length s.old }
     ensures { s.new ≡ take 8 s.old ++ ((v ∷ count ∷ 0 ∷ 0 ∷ []) ++ le4 n) ++ drop 16 s.old }
 {
-    put4(s, 8, (v as u32) + (count as u32) * 256);
+    s[8..12].copy_from_slice(&[v, count, 0, 0]);
     put4(s, 12, n);
 }
 
-// The levels after the first 16 bytes.
-pub fn put_levels(s: &mut [u8], levels: &[u8])
-    requires { 16 + length levels.now ≤ length s.old }
-    ensures { s.new ≡ take 16 s.old ++ levels.now ++ drop (16 + length levels.now) s.old }
-{
-    let mut i = 0;
-    while i < levels.len() {
-        s[16 + i] = levels[i];
-        i += 1;
-    }
-}
-
 // Block 0.
-pub fn put_head(s: &mut [u8], w: usize, h: usize, v: u8, levels: &[u8], n: usize)
-    requires { (length s.old ≡ 512) × (w ≤ 2048) × (h ≤ 2048) × (length levels.now ≤ 255) × (n ≤ 16777215) }
-    ensures { s.new ≡ block 0 (pad (header w h v levels.now n)) }
+// A block is a part of the lent file, cut by a range, so it is a slice whose length a clause says.
+pub fn put_head(s: &mut [u8], size: Size, v: u8, levels: &[u8], n: usize)
+    requires { (length s.old ≡ 512) × (length levels.now ≤ 255) × (n ≤ 16777215) }
+    ensures { s.new ≡ block 0 (pad (header size.width size.height v levels.now n)) }
 {
     let m = levels.len();
-    put_sides(s, w as u32, h as u32);
+    put_sides(s, size);
     put_counts(s, v, m as u8, n as u32);
-    put_levels(s, levels);
+    s[16..16 + m].copy_from_slice(levels);
     close(s, 16 + m, 0);
 }
 
@@ -84,10 +72,8 @@ pub fn put_bytes(s: &mut [u8], words: &[u32])
     requires { (length s.old ≡ 512) × (length words.now ≤ 127) }
     ensures { s.new ≡ word_bytes words.now ++ drop (4 * length words.now) s.old }
 {
-    let mut j = 0;
-    while j < words.len() {
-        put4(s, 4 * j, words[j]);
-        j += 1;
+    for (j, u) in words.iter().enumerate() {
+        put4(s, 4 * j, *u);
     }
 }
 
@@ -100,53 +86,39 @@ pub fn put_block(s: &mut [u8], number: usize, words: &[u32])
     close(s, 4 * words.len(), number);
 }
 
-// Two blocks of 127 words each, from word a on.
-pub fn put_two(s: &mut [u8], number: usize, words: &[u32], a: usize)
-    requires { (length s.old ≡ 1024) × (number < 4294967296) × (a + 254 ≤ length words.now) × (a ≤ 16777215) }
-    ensures { s.new ≡ word_blocks number 2 (drop a words.now) }
+// Two full blocks, of the first 254 words.
+pub fn put_two(s: &mut [u8], number: usize, words: &[u32])
+    requires { (length s.old ≡ 1024) × (number < 4294967296) × (254 ≤ length words.now) }
+    ensures { s.new ≡ word_blocks number 2 words.now }
 {
-    put_bytes(&mut s[0..512], &words[a..a + 127]);
-    put_bytes(&mut s[512..1024], &words[a + 127..a + 254]);
+    put_bytes(&mut s[0..BLOCK], &words[0..WORDS]);
+    put_bytes(&mut s[BLOCK..2 * BLOCK], &words[WORDS..2 * WORDS]);
     close_two(s, number);
 }
 
-// Where the words of a block end that start at a.
-pub fn block_end(a: usize, n: usize) -> usize
-    requires { (a ≤ n) × (n ≤ 16777215) }
-    ensures { result ≡ a + min 127 (n - a) }
+// How many words block 1 + b holds, of n in all.
+pub fn block_words(b: usize, n: usize) -> usize
+    requires { 127 * b ≤ n }
+    ensures { result ≡ min 127 (n - 127 * b) }
 {
-    if n - a < 127 {
-        return n;
-    }
-    a + 127
+    WORDS.min(n - WORDS * b)
 }
 
-// Block 1 + i, and the next where both are full; the number after them, less 1.
-pub fn put_next(file: &mut [u8], words: &[u32], i: usize) -> usize
-    requires { (length words.now ≤ 16777215) × (i < blocks_for (length words.now)) × (512 * (1 + blocks_for (length words.now)) ≤ length file.old) }
-    ensures { (i < result) × (result ≤ blocks_for (length words.now)) × (file.new ≡ take (512 + 512 * i) file.old
-        ++ (word_blocks (1 + i) (result - i) (drop (127 * i) words.now) ++ drop (512 * (result - i)) (drop (512 + 512 * i) file.old))) }
-{
-    let a = 127 * i;
-    let at = 512 + 512 * i;
-    if a + 254 <= words.len() {
-        put_two(&mut file[at..at + 1024], 1 + i, words, a);
-        return i + 2;
-    }
-    let e = block_end(a, words.len());
-    put_block(&mut file[at..at + 512], 1 + i, &words[a..e]);
-    i + 1
-}
-
-// The blocks of words, from block 1 on.
+// The blocks of words, from block 1 on: two at once as long as both are full.
 pub fn put_words(file: &mut [u8], words: &[u32])
     requires { (length words.now ≤ 16777215) × (512 * (1 + blocks_for (length words.now)) ≤ length file.old) }
     ensures { file.new ≡ (take 512 file.old ++ word_blocks 1 (blocks_for (length words.now)) words.now)
         ++ drop (512 * (1 + blocks_for (length words.now))) file.old }
 {
-    let m = blocks_for(words.len());
-    let mut i = 0;
-    while i < m {
-        i = put_next(file, words, i);
+    let pairs = words.len() / (2 * WORDS);
+    for k in 0..pairs {
+        let i = 2 * k;
+        let at = BLOCK * (1 + i);
+        put_two(&mut file[at..at + 2 * BLOCK], 1 + i, &words[WORDS * i..]);
+    }
+    for i in 2 * pairs..blocks_for(words.len()) {
+        let at = BLOCK * (1 + i);
+        let part = &words[WORDS * i..WORDS * i + block_words(i, words.len())];
+        put_block(&mut file[at..at + BLOCK], 1 + i, part);
     }
 }

@@ -4,7 +4,7 @@
 use mathlib.Core.Path.{◌≡◌, refl, sym, ap, ◌∙◌}
 use mathlib.Core.Bool.{Bool, true}
 use mathlib.Core.List.{List, [], ◌∷◌, ◌++◌, append_assoc}
-use Prim.Native.Nat.{ℕ, zero, suc, ◌+◌, ◌-◌, ◌≤◌, ◌<◌}
+use Prim.Native.Nat.{ℕ, zero, suc, ◌+◌, ◌≤◌, ◌<◌}
 use native.Mathlib.Nat.{add-zero}
 use native.Mathlib.Omega.{arith}
 use borrow.Author.Tests.{ne_eqb, eqb-true, eqb-false}
@@ -12,7 +12,7 @@ use lib.Dec.{eqb}
 use lib.ListN.{length, get_or, drop, length-append}
 use lib.Seq.{get_or-append_seam, get_or-append-add, drop-append-add, append_snoc}
 use Rattle.tally.proofs.Test.{by_test, no}
-use Rattle.form.specs.declared.Levels.{Levels}
+use Rattle.form.specs.Reader.{LevelsRead}
 use Rattle.form.specs.Decimal.{decimal}
 use Rattle.form.specs.Text.{more, levels_text}
 use Rattle.form.specs.Reader.{number, number_of, lined, levels_from, levels_of}
@@ -127,7 +127,7 @@ module _ (m : ℕ) (was : List ℕ) (u : ℕ) (s : List ℕ) (v : ℕ) (l : List
             ∙ ap (lined (was ++ (v ∷ (f.level ∷ f.others)))) z;
       }
 
-is_ok : Levels → Bool
+is_ok : LevelsRead → Bool
 is_ok r = r.ok
 
 from_sound : (m : ℕ) (was : List ℕ) (u : ℕ) (s : List ℕ) → (levels_from m was u s).ok ≡ true → From m was u s

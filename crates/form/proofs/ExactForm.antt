@@ -13,25 +13,25 @@ use lib.Dec.{eqb, leb}
 use lib.ListN.{length, take, drop, length-append, replicate}
 use lib.Seq.{take-append_seam, drop-append_seam, drop-append-add}
 use Rattle.tally.proofs.Test.{by_test, no}
-use Rattle.form.specs.declared.Form.{Form}
-use Rattle.form.specs.declared.Levels.{Levels}
+use Rattle.form.specs.Text.{FormRead}
+use Rattle.form.specs.Reader.{LevelsRead}
 use Rattle.form.specs.Text.{levels_text, header, form_text, Fits, form_with, no_form}
 use Rattle.form.specs.Reader.{lined, levels_of, header_of, samples_of, form_of}
 use Rattle.form.proofs.Whole.{form_none, to_samples, samples_none, samples_many, samples_else, samples_done}
 use Rattle.form.proofs.Exact.{levels_sound, levels_complete}
 use Rattle.form.proofs.ExactHead.{headed, header_sound, header_complete}
 
-is_ok : Form → Bool
+is_ok : FormRead → Bool
 is_ok r = r.ok
 
-ok_levels : Levels → Bool
+ok_levels : LevelsRead → Bool
 ok_levels r = r.ok
 
 -- ---- from the parts to the whole
 module _ (s ks : List ℕ) (a : levels_of s ≡ lined ks (length (levels_text ks))) where
   to_header : form_of s ≡ samples_of s (lined ks (length (levels_text ks))) (header_of (drop (length (levels_text ks)) s))
   unfolding ok_levels
-  to_header = to_samples s (ap ok_levels a) ∙ ap (λ (x : Levels). samples_of s x (header_of (drop x.used s))) a
+  to_header = to_samples s (ap ok_levels a) ∙ ap (λ (x : LevelsRead). samples_of s x (header_of (drop x.used s))) a
 
   module _ (w h : ℕ) (b : header_of (drop (length (levels_text ks)) s) ≡ headed w h) where
     to_end : form_of s ≡ samples_of s (lined ks (length (levels_text ks))) (headed w h)
@@ -112,7 +112,7 @@ pub form_exact : (s : List ℕ) → (form_of s).ok ≡ false → (ks : List ℕ)
 unfolding is_ok
 form_exact s o ks w h px f e = no (ap is_ok (ap form_of e ∙ form_complete ks w h px f)) o
 
-four : (a b c d : Bool) (x : Form) → x.ok ≡ true → (cond a (cond b (cond c (cond d x no_form) no_form) no_form) no_form).ok ≡ false
+four : (a b c d : Bool) (x : FormRead) → x.ok ≡ true → (cond a (cond b (cond c (cond d x no_form) no_form) no_form) no_form).ok ≡ false
     → cond a (cond b (cond c (cond d x no_form) no_form) no_form) no_form ≡ no_form
 four true true true true x e o = no e o
 four true true true false x e o = refl
@@ -131,7 +131,7 @@ form_refused s o =
     o
 
 -- ---- the parts handed back, as parts of the input
-pub record Inside (s : List ℕ) (r : Form) : Type 0 where
+pub record Inside (s : List ℕ) (r : FormRead) : Type 0 where
   pub few : r.count ≤ 255
   pub held : r.count ≤ length r.levels
   pub wide : r.width ≤ 65535
@@ -139,7 +139,7 @@ pub record Inside (s : List ℕ) (r : Form) : Type 0 where
   pub most : r.width * r.height ≤ 16384
   pub whole : length s ≡ r.at + r.width * r.height
 
-pub form_inside : (s : List ℕ) (r : Form) → r ≡ form_of s → r.ok ≡ true → Inside s r
+pub form_inside : (s : List ℕ) (r : FormRead) → r ≡ form_of s → r.ok ≡ true → Inside s r
 unfolding is_ok
 form_inside s r e o =
     let f = form_sound s (ap is_ok (sym e) ∙ o) in
@@ -162,7 +162,7 @@ unfolding form_text
 form_samples s f =
     let l = levels_text f.levels in
     let h = header f.width f.height in
-    ap (λ (r : Form). drop r.at s) f.reads
+    ap (λ (r : FormRead). drop r.at s) f.reads
     ∙ ap (drop (length l + length h)) f.is
     ∙ drop-append-add l (h ++ f.samples) (length h)
     ∙ drop-append_seam h f.samples

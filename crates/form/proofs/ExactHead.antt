@@ -11,7 +11,7 @@ use lib.Dec.{eqb}
 use lib.ListN.{length, get_or, drop, length-append}
 use lib.Seq.{get_or-drop, drop-append_seam, drop-drop}
 use Rattle.tally.proofs.Test.{by_test, no}
-use Rattle.form.specs.declared.Header.{Header}
+use Rattle.form.specs.Reader.{HeaderRead}
 use Rattle.form.specs.Decimal.{decimal}
 use Rattle.form.specs.Text.{magic, maximum, header}
 use Rattle.form.specs.Reader.{number, number_of, begins, height_of, width_of, header_of}
@@ -20,7 +20,7 @@ use Rattle.form.proofs.Prefix.{prefix_sound, prefix_complete}
 use Rattle.form.proofs.Head.{head_none, to_width, width_none, width_bad, to_height, height_none, height_bad, to_header}
 use Rattle.form.proofs.Exact.{known, seam}
 
-abbrev pub headed : ℕ → ℕ → Header
+abbrev pub headed : ℕ → ℕ → HeaderRead
 headed w h = record { ok = true; width = w; height = h; used = length (header w h) }
 
 -- ---- where the parts stand
@@ -81,7 +81,7 @@ pub record Head (s : List ℕ) : Type 0 where
   pub tall : height ≤ 65535
   pub reads : header_of s ≡ headed width height
 
-is_ok : Header → Bool
+is_ok : HeaderRead → Bool
 is_ok r = r.ok
 
 module _ (s : List ℕ) (m : begins magic s ≡ true) (w : ℕ) (l : List ℕ) (hw : w ≤ 65535) (e : drop 3 s ≡ decimal w ++ l) (t : header_of s ≡ width_of s (number w (length (decimal w)))) where

@@ -1,15 +1,18 @@
 -- Reading the header, part by part. Assumes nothing.
 -- Main laws: `to_width`, `to_height`, `to_header` the reader's way through a header; `width_none`, `width_bad`, `height_none`, `height_bad` where it leaves it; `head_plain`, `head_width`,
 --   `head_space`, `head_height`, `head_end`, `head_done` what each return of the code hands over.
-use mathlib.Core.Path.{◌≡◌, sym, ap, ◌∙◌}
+use mathlib.Core.Path.{◌≡◌, refl, sym, ap, ◌∙◌}
 use mathlib.Core.Bool.{Bool, true, false}
 use mathlib.Core.List.{List}
 use Prim.Native.Nat.{ℕ, ◌+◌, ◌-◌, ◌≤◌}
 use native.Mathlib.Omega.{arith}
 use borrow.Author.Tests.{eq-eqb, ne_eqb}
 use lib.ListN.{length, get_or, take, drop, length-drop}
+use Rattle.std.specs.Prelude.{Option, Some, None, IfSome}
 use Rattle.form.specs.declared.Number.{Number}
 use Rattle.form.specs.declared.Header.{Header}
+use Rattle.form.specs.Reader.{NumberRead, number, number_told, header_told}
+use Rattle.form.proofs.Numbers.{number_missing, number_given}
 use Rattle.form.specs.Text.{magic, maximum}
 use Rattle.form.specs.Reader.{begins, number_of, no_header, height_of, width_of, header_of}
 use Rattle.form.proofs.Prefix.{prefix_inside}
@@ -24,7 +27,7 @@ module _ (s : List ℕ) where
   unfolding header_of
   to_width e = rw e
 
-  module _ (a : Number) where
+  module _ (a : NumberRead) where
     pub width_none : a.ok ≡ false → width_of s a ≡ no_header
     unfolding width_of
     width_none o = rw o
@@ -51,48 +54,60 @@ module _ (s : List ℕ) where
       to_header o e = rw (o, e)
 
 -- what a call has to show of the header read
-abbrev pub Headed : List ℕ → Header → Type 0
-Headed s r = (r ≡ header_of s) × (r.used ≤ length s) × (r.width ≤ 65535) × (r.height ≤ 65535)
+abbrev pub Headed : List ℕ → Option Header → Type 0
+Headed s r = (r ≡ header_told (header_of s)) × IfSome r (λ h. (h.used ≤ length s) × (h.width ≤ 65535) × (h.height ≤ 65535))
 
 module _ (s : List ℕ) where
-  none : (r : Header) → r ≡ no_header → header_of s ≡ no_header → Headed s r
-  none r e f = (e ∙ sym f, rw e (omega arith), rw e (omega arith), rw e (omega arith))
+  none : header_of s ≡ no_header → Headed s None
+  none f = (ap header_told (sym f), tt)
 
-  pub head_plain : (r : Header) → begins magic s ≡ false → r ≡ no_header → Headed s r
-  head_plain r b e = none r e (head_none s b)
+  pub head_plain : begins magic s ≡ false → Headed s None
+  head_plain b = none (head_none s b)
 
-  module _ (b : begins magic s ≡ true) (x : Number) (ex : x ≡ number_of 65535 (take (length s - 3) (drop 3 s))) where
-    wide : header_of s ≡ width_of s x
-    wide = to_width s b ∙ ap (λ (i : List ℕ). width_of s (number_of 65535 i)) (sym (part_end s 3)) ∙ ap (width_of s) (sym ex)
+  module _ (b : begins magic s ≡ true) where
+    wide : (x : NumberRead) → x ≡ number_of 65535 (take (length s - 3) (drop 3 s)) → header_of s ≡ width_of s x
+    wide x ex = to_width s b ∙ ap (λ (i : List ℕ). width_of s (number_of 65535 i)) (sym (part_end s 3)) ∙ ap (width_of s) (sym ex)
 
-    pub head_width : (r : Header) → x.ok ≡ false → r ≡ no_header → Headed s r
-    head_width r o e = none r e (wide ∙ width_none s x o)
+    pub head_width : None ≡ number_told (number_of 65535 (take (length s - 3) (drop 3 s))) → Headed s None
+    head_width e =
+        let x = number_of 65535 (take (length s - 3) (drop 3 s)) in
+        none (wide x refl ∙ width_none s x (number_missing x e))
 
-    module _ (o : x.ok ≡ true) where
-      pub head_space : (r : Header) → (get_or s (3 + x.count) 0 ≡ 32 → ⊥) → r ≡ no_header → Headed s r
-      head_space r n e = none r e (wide ∙ width_bad s x o n)
+    module _ (x : Number) (ex : Some x ≡ number_told (number_of 65535 (take (length s - 3) (drop 3 s)))) where
+      first : header_of s ≡ width_of s (number x.value x.count)
+      first = wide (number x.value x.count) (sym (number_given x _ ex))
 
-      module _ (g : get_or s (3 + x.count) 0 ≡ 32) (y : Number)
-          (ey : y ≡ number_of 65535 (take (length s - (3 + x.count + 1)) (drop (3 + x.count + 1) s))) where
-        tall : header_of s ≡ height_of s x.value (3 + x.count + 1) y
-        tall =
-            wide
-            ∙ to_height s x o g
+      pub head_space : (get_or s (3 + x.count) 0 ≡ 32 → ⊥) → Headed s None
+      head_space n = none (first ∙ width_bad s (number x.value x.count) refl n)
+
+      module _ (g : get_or s (3 + x.count) 0 ≡ 32) where
+        tall : (y : NumberRead) → y ≡ number_of 65535 (take (length s - (3 + x.count + 1)) (drop (3 + x.count + 1) s)) → header_of s ≡ height_of s x.value (3 + x.count + 1) y
+        tall y ey =
+            first
+            ∙ to_height s (number x.value x.count) refl g
             ∙ ap (λ (i : List ℕ). height_of s x.value (3 + x.count + 1) (number_of 65535 i)) (sym (part_end s (3 + x.count + 1)))
             ∙ ap (height_of s x.value (3 + x.count + 1)) (sym ey)
 
-        pub head_height : (r : Header) → y.ok ≡ false → r ≡ no_header → Headed s r
-        head_height r p e = none r e (tall ∙ height_none s y x.value (3 + x.count + 1) p)
+        pub head_height : None ≡ number_told (number_of 65535 (take (length s - (3 + x.count + 1)) (drop (3 + x.count + 1) s))) → Headed s None
+        head_height e =
+            let y = number_of 65535 (take (length s - (3 + x.count + 1)) (drop (3 + x.count + 1) s)) in
+            none (tall y refl ∙ height_none s y x.value (3 + x.count + 1) (number_missing y e))
 
-        module _ (p : y.ok ≡ true) (z : Bool) (ez : z ≡ begins maximum (take (length s - (3 + x.count + 1 + y.count)) (drop (3 + x.count + 1 + y.count) s))) where
-          ends : z ≡ begins maximum (drop (3 + x.count + 1 + y.count) s)
-          ends = ez ∙ ap (begins maximum) (part_end s (3 + x.count + 1 + y.count))
+        module _ (y : Number) (ey : Some y ≡ number_told (number_of 65535 (take (length s - (3 + x.count + 1)) (drop (3 + x.count + 1) s))))
+          where
+            second : header_of s ≡ height_of s x.value (3 + x.count + 1) (number y.value y.count)
+            second = tall (number y.value y.count) (sym (number_given y _ ey))
 
-          pub head_end : (r : Header) → z ≡ false → r ≡ no_header → Headed s r
-          head_end r q e = none r e (tall ∙ height_bad s y x.value (3 + x.count + 1) p (sym ends ∙ q))
+            ends : (z : Bool) → begins maximum (take (length s - (3 + x.count + 1 + y.count)) (drop (3 + x.count + 1 + y.count) s)) ≡ z → begins maximum (drop (3 + x.count + 1 + y.count) s) ≡ z
+            ends z q = ap (begins maximum) (sym (part_end s (3 + x.count + 1 + y.count))) ∙ q
 
-          pub head_done : z ≡ true → x.value ≤ 65535 → y.value ≤ 65535
-              → Headed s (record { ok = true; width = x.value; height = y.value; used = 3 + x.count + 1 + y.count + 5 })
-          head_done q h k =
-              let t = sym ends ∙ q in
-              (sym (tall ∙ to_header s y x.value (3 + x.count + 1) p t), omega (arith, prefix_inside maximum (drop (3 + x.count + 1 + y.count) s) t, length-drop (3 + x.count + 1 + y.count) s), h, k)
+            pub head_end : begins maximum (take (length s - (3 + x.count + 1 + y.count)) (drop (3 + x.count + 1 + y.count) s)) ≡ false → Headed s None
+            head_end q = none (second ∙ height_bad s (number y.value y.count) x.value (3 + x.count + 1) refl (ends false q))
+
+            pub head_done : begins maximum (take (length s - (3 + x.count + 1 + y.count)) (drop (3 + x.count + 1 + y.count) s)) ≡ true → x.value ≤ 65535 → y.value ≤ 65535
+                → Headed s (Some (record { width = x.value; height = y.value; used = 3 + x.count + 1 + y.count + 5 }))
+            head_done q h k =
+                let t = ends true q in (
+                  ap header_told (sym (second ∙ to_header s (number y.value y.count) x.value (3 + x.count + 1) refl t)),
+                  (omega (arith, prefix_inside maximum (drop (3 + x.count + 1 + y.count) s) t, length-drop (3 + x.count + 1 + y.count) s), h, k),
+                )

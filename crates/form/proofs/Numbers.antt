@@ -1,9 +1,9 @@
 -- Reading a number: step by step, and that it reads exactly the numbers in decimal. Assumes nothing.
 -- Definitions: `Reading` some digits of a number are read; `Read` a list begins with a number.
--- Main laws: `read_begin`, `read_stop`, `read_over`, `read_more` the steps; `number_sound` what is read is a number in decimal; `number_complete` every number in decimal is read; `number-inside` it
---   is no longer than the list.
+-- Main laws: `read_begin`, `read_stop`, `read_over`, `read_more` the steps; `number_sound` what is read is a number in decimal; `number_complete` every number in decimal is read; `number_given`,
+--   `number_missing` what a number that is told says of the one read, and none; `missing` the same of any value.
 use mathlib.Core.Path.{◌≡◌, refl, sym, ap, ◌∙◌}
-use mathlib.Core.Bool.{true, false}
+use mathlib.Core.Bool.{Bool, true, false, cond}
 use mathlib.Core.List.{List, [], ◌∷◌, ◌++◌}
 use Prim.Native.Nat.{ℕ, zero, suc, ◌+◌, ◌-◌, ◌*◌, ◌/◌, ◌%◌, ◌≤◌, ◌<◌}
 use native.Mathlib.Nat.{add-zero}
@@ -14,20 +14,22 @@ use lib.Dec.{eqb, leb}
 use lib.ListN.{length, get_or, drop, length-append, get_or-eq_default}
 use lib.Seq.{drop-cons, get_or-drop, append_snoc}
 use Rattle.tally.proofs.Test.{by_test, no, and_1, and_2, both}
+use Rattle.std.specs.Prelude.{Option, Some, None, IfSome}
+use Rattle.std.proofs.lemmas.Option.{cond_some}
 use Rattle.form.specs.declared.Number.{Number}
+use Rattle.form.specs.Reader.{NumberRead, number_told}
 use Rattle.form.specs.Decimal.{decimal}
 use Rattle.form.specs.Reader.{is_digit, stop, no_number, number, read_on, number_of}
 use Rattle.form.proofs.Decimal.{by_digits, decimal_small, decimal_more, decimal_next, decimal_head, decimal_some}
 
+-- no value is told
+pub missing : {A : Type 0} (b : Bool) (x : A) → None ≡ cond b (Some x) None → b ≡ false
+missing true x e = cc
+missing false x e = refl
+
 -- ---- digits
 pub is_digit_lem : (b : ℕ) → 48 ≤ b → b ≤ 57 → is_digit b ≡ true
 is_digit_lem b h k = both (le-leb 48 b h) (le-leb b 57 k)
-
-pub below_digits : (b : ℕ) → b < 48 → is_digit b ≡ false
-below_digits b h = simp (lt-leb 48 b h)
-
-pub above_digits : (b : ℕ) → 57 < b → is_digit b ≡ false
-above_digits b h = simp (le-leb 48 b (omega arith), lt-leb b 57 h)
 
 digit_least : (b : ℕ) → is_digit b ≡ true → 48 ≤ b
 digit_least b e = leb-true 48 b (and_1 (leb 48 b) (leb b 57) e)
@@ -57,19 +59,25 @@ pub record Reading (m : ℕ) (s : List ℕ) (v i : ℕ) : Type 0 where
   pub left : number_of m s ≡ read_on m v i (drop i s)
 
 -- what a call has to show of the number read
-abbrev pub Answers : ℕ → List ℕ → Number → Type 0
-Answers m s r = (r ≡ number_of m s) × (r.count ≤ length s) × (r.value ≤ m)
+abbrev pub Answers : ℕ → List ℕ → Option Number → Type 0
+Answers m s r = (r ≡ number_told (number_of m s)) × IfSome r (λ n. (n.count ≤ length s) × (n.value ≤ m))
 
-stop_count : (v c : ℕ) → (stop v c).count ≤ c
-stop_count v c = by_test (eqb c 0) (λ e. rw e (omega arith)) (λ e. rw e (omega arith))
+-- a number that is told, and none
+pub number_given : (n : Number) (r : NumberRead) → Some n ≡ number_told r → r ≡ number n.value n.count
+number_given n r e =
+    let q = cond_some r.ok (record { value = r.value; count = r.count }) n (sym e) in
+    λ i. record { ok = q.0 i; value = (q.1 i).value; count = (q.1 i).count }
 
-stop_value : (v c : ℕ) → (stop v c).value ≤ v
-stop_value v c = by_test (eqb c 0) (λ e. rw e (omega arith)) (λ e. rw e (omega arith))
+pub number_missing : (r : NumberRead) → None ≡ number_told r → r.ok ≡ false
+number_missing r e = missing r.ok _ e
+
+stop_inside : (m n v c : ℕ) → v ≤ m → c ≤ n → IfSome (number_told (stop v c)) (λ r. (r.count ≤ n) × (r.value ≤ m))
+stop_inside m n v c h k = by_test (eqb c 0) (λ e. rw e tt) (λ e. rw e (k, h))
 
 module _ (m : ℕ) (s : List ℕ) where
-  pub read_zero : get_or s 0 0 ≡ 48 → Answers m s (number 0 1)
+  pub read_zero : get_or s 0 0 ≡ 48 → Answers m s (Some (record { value = 0; count = 1 }))
   unfolding number_of
-  read_zero e = (rw (eq-eqb (get_or s 0 0) 48 e), some s e, omega arith)
+  read_zero e = (rw (eq-eqb (get_or s 0 0) 48 e), (some s e, omega arith))
     where
       some : (s : List ℕ) → get_or s 0 0 ≡ 48 → 1 ≤ length s
       some [] e = absurd (omega arith)
@@ -80,41 +88,45 @@ module _ (m : ℕ) (s : List ℕ) where
   read_begin n = record { inside = omega arith; most = omega arith; left = rw (ne_eqb (get_or s 0 0) 48 n) }
 
   module _ (v i : ℕ) (t : Reading m s v i) where
-    pub read_stop : (r : Number) → is_digit (get_or s i 0) ≡ false → r ≡ stop v i → Answers m s r
+    pub read_stop : (r : Option Number) → is_digit (get_or s i 0) ≡ false → r ≡ number_told (stop v i) → Answers m s r
     read_stop r d e =
         let g : get_or (drop i s) 0 0 ≡ get_or s i 0 = get_or-drop i s 0 0 ∙ rw add-zero in
         let q = t.left ∙ on_stop m v i (drop i s) (ap is_digit g ∙ d) in
-        (e ∙ sym q, rw e (omega (arith, stop_count v i, t.inside)), rw e (omega (arith, stop_value v i, t.most)))
+        (e ∙ ap number_told (sym q), rw e (stop_inside m (length s) v i t.most t.inside))
 
-    pub read_end : (r : Number) → length s ≤ i → r ≡ stop v i → Answers m s r
-    read_end r h e = read_stop r (ap is_digit (get_or-eq_default s 0 h)) e
+    pub read_end : (r : Option Number) → length s ≤ i → r ≡ number_told (stop v (length s)) → Answers m s r
+    read_end r h e =
+        let z : length s ≡ i = omega (arith, t.inside) in
+        read_stop r (ap is_digit (get_or-eq_default s 0 h)) (e ∙ ap (λ (j : ℕ). number_told (stop v j)) z)
 
-    module _ (h : i < length s) (d : is_digit (get_or s i 0) ≡ true) where
-      pub read_over : (r : Number) → m < v * 10 + (get_or s i 0 - 48) → r ≡ stop 0 0 → Answers m s r
-      read_over r k e =
-          let q = t.left ∙ ap (read_on m v i) (drop-cons s i 0 h) ∙ on_over m v i (get_or s i 0) (drop (suc i) s) d k in
-          (e ∙ sym q, rw e (omega arith), rw e (omega arith))
+    module _ (h : i < length s) (d : is_digit (get_or s i 0) ≡ true) (n : ℕ) (z : n ≡ get_or s i 0 - 48) where
+      pub read_over : m < v * 10 + n → Answers m s None
+      read_over k =
+          let j : m < v * 10 + (get_or s i 0 - 48) = rw (← z) k in
+          let q = t.left ∙ ap (read_on m v i) (drop-cons s i 0 h) ∙ on_over m v i (get_or s i 0) (drop (suc i) s) d j in
+          (ap number_told (sym q), tt)
 
-      pub read_more : v * 10 + (get_or s i 0 - 48) ≤ m → Reading m s (v * 10 + (get_or s i 0 - 48)) (i + 1)
+      pub read_more : v * 10 + n ≤ m → Reading m s (v * 10 + n) (i + 1)
       read_more k =
-          record {
+          rw z
+          (record {
             inside = omega arith;
-            most = k;
-            left = t.left ∙ ap (read_on m v i) (drop-cons s i 0 h) ∙ on_more m v i (get_or s i 0) (drop (suc i) s) d k ∙ rw (← add-one i);
-          }
+            most = rw z at k;
+            left = t.left ∙ ap (read_on m v i) (drop-cons s i 0 h) ∙ on_more m v i (get_or s i 0) (drop (suc i) s) d (rw z at k) ∙ rw (← add-one i);
+          })
 
 -- ---- what is read is a number in decimal
-pub record Read (m : ℕ) (s : List ℕ) (r : Number) : Type 0 where
+pub record Read (m : ℕ) (s : List ℕ) (r : NumberRead) : Type 0 where
   pub value : ℕ
   pub rest : List ℕ
   pub is : s ≡ decimal value ++ rest
   pub most : value ≤ m
   pub reads : r ≡ number value (length (decimal value))
 
-told : {r q : Number} → q ≡ r → q.ok ≡ true → r.ok ≡ true
-told e o = ap (λ (i : Number). i.ok) (sym e) ∙ o
+told : {r q : NumberRead} → q ≡ r → q.ok ≡ true → r.ok ≡ true
+told e o = ap (λ (i : NumberRead). i.ok) (sym e) ∙ o
 
-again : {m : ℕ} {s t : List ℕ} {r q : Number} → t ≡ s → q ≡ r → Read m s r → Read m t q
+again : {m : ℕ} {s t : List ℕ} {r q : NumberRead} → t ≡ s → q ≡ r → Read m s r → Read m t q
 again e f d = record { value = d.value; rest = d.rest; is = e ∙ d.is; most = d.most; reads = f ∙ d.reads }
 
 sound_stop : (m v c : ℕ) (s : List ℕ) → v ≤ m → c ≡ length (decimal v) → is_digit (get_or s 0 0) ≡ false → Read m (decimal v ++ s) (read_on m v c s)
@@ -137,12 +149,12 @@ on_sound m v c (b ∷ l) h k e o =
     let x : decimal n ≡ decimal v ++ (b ∷ []) = decimal_next v (b - 48) h (omega arith) ∙ rw z in
     let y : suc c ≡ length (decimal n) = sym (ap length x ∙ length-append (decimal v) (b ∷ []) ∙ omega arith) in
     again (sym (ap (λ (i : List ℕ). i ++ l) x ∙ append_snoc (decimal v) b l)) q (on_sound m n (suc c) l (omega arith) (leb-true n m t) y (told q o)))
-    (λ t. no o (ap (λ (i : Number). i.ok) (on_over m v c b l d (leb-false n m t)))))
+    (λ t. no o (ap (λ (i : NumberRead). i.ok) (on_over m v c b l d (leb-false n m t)))))
     (λ d. sound_stop m v c (b ∷ l) k e d)
 
 pub number_sound : (m : ℕ) (s : List ℕ) → (number_of m s).ok ≡ true → Read m s (number_of m s)
 unfolding number_of
-number_sound m [] o = no o (ap (λ (i : Number). i.ok) (on_stop m 0 0 [] refl))
+number_sound m [] o = no o (ap (λ (i : NumberRead). i.ok) (on_stop m 0 0 [] refl))
 number_sound m (b ∷ l) o =
     by_test (eqb b 48)
     (λ t.
@@ -164,8 +176,8 @@ number_sound m (b ∷ l) o =
         (λ t.
         let q = on_more m 0 0 b l d (leb-true n m t) in
         again (sym (ap (λ (i : List ℕ). i ++ l) x)) q (on_sound m n 1 l (omega (arith, f)) (leb-true n m t) (sym (ap length x)) (told q o)))
-        (λ t. no o (ap (λ (i : Number). i.ok) (on_over m 0 0 b l d (leb-false n m t)))))
-        (λ d. no o (ap (λ (i : Number). i.ok) (on_stop m 0 0 (b ∷ l) d)))
+        (λ t. no o (ap (λ (i : NumberRead). i.ok) (on_over m 0 0 b l d (leb-false n m t)))))
+        (λ d. no o (ap (λ (i : NumberRead). i.ok) (on_stop m 0 0 (b ∷ l) d)))
 
 -- ---- every number in decimal is read, if no digit follows
 on_complete : (m n : ℕ) (l : List ℕ) → 1 ≤ n → n ≤ m → read_on m 0 0 (decimal n ++ l) ≡ read_on m n (length (decimal n)) l

@@ -1,16 +1,20 @@
 -- Reading the whole input, part by part. Assumes nothing.
--- Main laws: `to_samples` from the levels and the header to the samples; `samples_none`, `samples_many`, `samples_else`, `samples_done` its cases; `whole_none`, `whole_header`, `whole_many`,
---   `whole_else`, `whole_done` what each return of the code hands over.
-use mathlib.Core.Path.{◌≡◌, sym, ap, ◌∙◌}
+-- Main laws: `to_samples` from the levels and the header to the samples; `samples_none`, `samples_many`, `samples_else`, `samples_done` its cases; `form_given`, `form_missing` what
+--   a form that is told says of the one read; `whole_none`, `whole_header`, `whole_many`, `whole_else`, `whole_done` what each return of the code hands over.
+use mathlib.Core.Path.{◌≡◌, refl, sym, ap, ◌∙◌}
 use mathlib.Core.Bool.{true, false}
 use mathlib.Core.List.{List}
 use Prim.Native.Nat.{ℕ, ◌+◌, ◌-◌, ◌*◌, ◌≤◌, ◌<◌}
 use borrow.Author.Tests.{le-leb, lt-leb, eq-eqb, ne_eqb}
 use lib.ListN.{length, take, drop}
+use Rattle.std.specs.Prelude.{Some, None}
+use Rattle.std.proofs.lemmas.Option.{cond_some}
 use Rattle.form.specs.declared.Form.{Form}
 use Rattle.form.specs.declared.Levels.{Levels}
 use Rattle.form.specs.declared.Header.{Header}
-use Rattle.form.specs.Text.{no_form}
+use Rattle.form.specs.Text.{FormRead, no_form}
+use Rattle.form.specs.Reader.{LevelsRead, HeaderRead, levels_told, header_told, form_told}
+use Rattle.form.proofs.Numbers.{missing}
 use Rattle.form.specs.Reader.{levels_of, header_of, samples_of, form_of}
 use Rattle.form.proofs.Line.{part_end}
 
@@ -23,7 +27,7 @@ module _ (s : List ℕ) where
   unfolding form_of
   to_samples o = rw o
 
-  module _ (a : Levels) (b : Header) where
+  module _ (a : LevelsRead) (b : HeaderRead) where
     pub samples_none : b.ok ≡ false → samples_of s a b ≡ no_form
     unfolding samples_of
     samples_none o = rw o
@@ -43,29 +47,68 @@ module _ (s : List ℕ) where
         unfolding samples_of
         samples_done e = rw (o, le-leb (b.width * b.height) 16384 h, eq-eqb (length s) (a.used + b.used + b.width * b.height) e)
 
-module _ (s : List ℕ) (a : Levels) (ea : a ≡ levels_of s) where
-  pub whole_none : (r : Form) → a.ok ≡ false → r ≡ no_form → r ≡ form_of s
-  whole_none r o e = e ∙ sym (form_none s (ap (λ (x : Levels). x.ok) (sym ea) ∙ o))
+-- ---- levels, a header and a form that are told, and none
+levels_given : (l : Levels) (r : LevelsRead) → Some l ≡ levels_told r → r ≡ record { ok = true; count = l.count; levels = l.levels; used = l.used }
+levels_given l r e =
+    let q = cond_some r.ok (record { count = r.count; levels = r.levels; used = r.used }) l (sym e) in
+    λ i. record { ok = q.0 i; count = (q.1 i).count; levels = (q.1 i).levels; used = (q.1 i).used }
 
-  module _ (o : a.ok ≡ true) (b : Header) (eb : b ≡ header_of (take (length s - a.used) (drop a.used s))) where
-    whole : form_of s ≡ samples_of s a b
-    whole =
-        to_samples s (ap (λ (x : Levels). x.ok) (sym ea) ∙ o)
-        ∙ ap (λ (x : Levels). samples_of s x (header_of (drop x.used s))) (sym ea)
-        ∙ ap (λ (l : List ℕ). samples_of s a (header_of l)) (sym (part_end s a.used))
-        ∙ ap (samples_of s a) (sym eb)
+header_given : (h : Header) (r : HeaderRead) → Some h ≡ header_told r → r ≡ record { ok = true; width = h.width; height = h.height; used = h.used }
+header_given h r e =
+    let q = cond_some r.ok (record { width = r.width; height = r.height; used = r.used }) h (sym e) in
+    λ i. record { ok = q.0 i; width = (q.1 i).width; height = (q.1 i).height; used = (q.1 i).used }
 
-    pub whole_header : (r : Form) → b.ok ≡ false → r ≡ no_form → r ≡ form_of s
-    whole_header r p e = e ∙ sym (whole ∙ samples_none s a b p)
+pub form_given : (f : Form) (r : FormRead) → Some f ≡ form_told r → r ≡ record { ok = true; width = f.width; height = f.height; count = f.count; levels = f.levels; at = f.at }
+form_given f r e =
+    let q = cond_some r.ok (record { width = r.width; height = r.height; count = r.count; levels = r.levels; at = r.at }) f (sym e) in
+    λ i. record { ok = q.0 i; width = (q.1 i).width; height = (q.1 i).height; count = (q.1 i).count; levels = (q.1 i).levels; at = (q.1 i).at }
 
-    module _ (p : b.ok ≡ true) where
-      pub whole_many : (r : Form) → 16384 < b.width * b.height → r ≡ no_form → r ≡ form_of s
-      whole_many r h e = e ∙ sym (whole ∙ samples_many s a b p h)
+pub form_missing : (r : FormRead) → None ≡ form_told r → r.ok ≡ false
+form_missing r e = missing r.ok _ e
+
+module _ (s : List ℕ) where
+  none : form_of s ≡ no_form → None ≡ form_told (form_of s)
+  none e = ap form_told (sym e)
+
+  pub whole_none : None ≡ levels_told (levels_of s) → None ≡ form_told (form_of s)
+  whole_none e = none (form_none s (missing (levels_of s).ok _ e))
+
+  module _ (a : Levels) (ea : Some a ≡ levels_told (levels_of s)) where
+    line : LevelsRead
+    line = record { ok = true; count = a.count; levels = a.levels; used = a.used }
+
+    whole : (b : HeaderRead) → b ≡ header_of (take (length s - a.used) (drop a.used s)) → form_of s ≡ samples_of s line b
+    unfolding line
+    whole b eb =
+        let ea' = levels_given a (levels_of s) ea in
+        to_samples s (ap (λ (x : LevelsRead). x.ok) ea')
+        ∙ ap (λ (x : LevelsRead). samples_of s x (header_of (drop x.used s))) ea'
+        ∙ ap (λ (l : List ℕ). samples_of s line (header_of l)) (sym (part_end s a.used))
+        ∙ ap (samples_of s line) (sym eb)
+
+    pub whole_header : None ≡ header_told (header_of (take (length s - a.used) (drop a.used s))) → None ≡ form_told (form_of s)
+    whole_header e =
+        let b = header_of (take (length s - a.used) (drop a.used s)) in
+        none (whole b refl ∙ samples_none s line b (missing b.ok _ e))
+
+    module _ (b : Header) (eb : Some b ≡ header_told (header_of (take (length s - a.used) (drop a.used s)))) where
+      top : HeaderRead
+      top = record { ok = true; width = b.width; height = b.height; used = b.used }
+
+      topped : form_of s ≡ samples_of s line top
+      unfolding top
+      topped = whole top (sym (header_given b _ eb))
+
+      pub whole_many : 16384 < b.width * b.height → None ≡ form_told (form_of s)
+      unfolding top
+      whole_many h = none (topped ∙ samples_many s line top refl h)
 
       module _ (h : b.width * b.height ≤ 16384) where
-        pub whole_else : (r : Form) → (length s ≡ a.used + b.used + b.width * b.height → ⊥) → r ≡ no_form → r ≡ form_of s
-        whole_else r n e = e ∙ sym (whole ∙ samples_else s a b p h n)
+        pub whole_else : (length s ≡ a.used + b.used + b.width * b.height → ⊥) → None ≡ form_told (form_of s)
+        unfolding line top
+        whole_else n = none (topped ∙ samples_else s line top refl h n)
 
         pub whole_done : length s ≡ a.used + b.used + b.width * b.height
-            → record { ok = true; width = b.width; height = b.height; count = a.count; levels = a.levels; at = a.used + b.used } ≡ form_of s
-        whole_done e = sym (whole ∙ samples_done s a b p h e)
+            → Some (record { width = b.width; height = b.height; count = a.count; levels = a.levels; at = a.used + b.used }) ≡ form_told (form_of s)
+        unfolding line top
+        whole_done e = ap form_told (sym (topped ∙ samples_done s line top refl h e))

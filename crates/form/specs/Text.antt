@@ -1,8 +1,7 @@
 -- The form of the listing program's input, as text. Assumes nothing.
 -- Definitions: `more` further levels; `levels_text` the line of levels; `magic`, `maximum` the fixed bytes of a PGM; `header` its lines; `form_text` the whole input; `Fits` what its parts must keep to;
---   `form_with` what reading such input hands back; `no_form` what it hands back for any other.
-use Rattle.std.specs.Prelude.{◌≡◌, true, false, List, [], ◌∷◌, ◌++◌, ℕ, ◌+◌, ◌-◌, ◌*◌, ◌≤◌, ◌<◌, length, get_or, replicate}
-use Rattle.form.specs.declared.Form.{Form}
+--   `FormRead` what reading finds; `form_with` what it finds in such input; `no_form` what it finds in any other.
+use Rattle.std.specs.Prelude.{◌≡◌, Bool, true, false, List, [], ◌∷◌, ◌++◌, ℕ, ◌+◌, ◌-◌, ◌*◌, ◌≤◌, ◌<◌, length, get_or, replicate}
 use Rattle.form.specs.Decimal.{decimal}
 
 -- one space between levels, a newline after the last (01, The listing program)
@@ -39,8 +38,16 @@ pub record Fits (ks : List ℕ) (w h : ℕ) (px : List ℕ) : Type 0 where
   pub whole : length px ≡ w * h
   pub most : w * h ≤ 16384
 
--- sides, number of levels, the levels with zeros after the last, and where the samples start
-abbrev pub form_with : List ℕ → ℕ → ℕ → Form
+-- whether the input is of the form, its sides, its number of levels, the levels with zeros after the last, and where the samples start
+pub record FormRead : Type 0 where
+  pub ok : Bool
+  pub width : ℕ
+  pub height : ℕ
+  pub count : ℕ
+  pub levels : List ℕ
+  pub at : ℕ
+
+abbrev pub form_with : List ℕ → ℕ → ℕ → FormRead
 form_with ks w h =
     record {
       ok = true;
@@ -51,5 +58,5 @@ form_with ks w h =
       at = length (levels_text ks) + length (header w h);
     }
 
-abbrev pub no_form : Form
+abbrev pub no_form : FormRead
 no_form = record { ok = false; width = 0; height = 0; count = 0; levels = replicate 255 0; at = 0 }

@@ -1,14 +1,12 @@
 // Reads the listing program's input: a line of levels, the header of a PGM, the samples.
 #![tactic(auto)]
 
-ghost use Rattle.std.specs.Prelude.{◌≡◌, ◌+◌, ◌*◌, ◌≤◌, ◌<◌, length, get_or};
-ghost use Rattle.form.specs.Text.{no_form};
-ghost use Rattle.form.specs.Reader.{number_of, stop, begins, no_levels, levels_of, no_header, header_of, form_of};
+ghost use Rattle.std.specs.Prelude.{◌≡◌, ◌+◌, ◌*◌, ◌≤◌, ◌<◌, length, get_or, IfSome};
+ghost use Rattle.form.specs.Reader.{number_of, number_told, stop, levels_of, levels_told, header_of, header_told, form_of, form_told};
 
-// What reading finds: whether the input is of the form, its sides, its number of levels, the levels with zeros after the last, and where the samples start.
+// What reading finds: the sides, the number of levels, the levels with zeros after the last, and where the samples start.
 #[derive(Drop)]
 pub struct Form {
-    pub ok: bool,
     pub width: usize,
     pub height: usize,
     pub count: usize,
@@ -19,15 +17,13 @@ pub struct Form {
 // A number, and of how many bytes it is.
 #[derive(Drop)]
 pub struct Number {
-    pub ok: bool,
     pub value: usize,
     pub count: usize,
 }
 
-// The line of levels, and of how many bytes it is.
+// The line of levels, and of how many bytes it is. There is no heap, so the levels stand in an array with their count beside them.
 #[derive(Drop)]
 pub struct Levels {
-    pub ok: bool,
     pub count: usize,
     pub levels: [u8; 255],
     pub used: usize,
@@ -36,7 +32,6 @@ pub struct Levels {
 // The sides, and of how many bytes the header is.
 #[derive(Drop)]
 pub struct Header {
-    pub ok: bool,
     pub width: usize,
     pub height: usize,
     pub used: usize,
@@ -46,219 +41,116 @@ pub struct Header {
 pub fn byte_at(s: &[u8], i: usize) -> u8
     ensures { result ≡ get_or s.now i 0 }
 {
-    if i < s.len() {
-        return s[i];
-    }
-    0
+    s.get(i).copied().unwrap_or(0)
 }
 
-// The number of c digits that make v.
-fn stopped(v: usize, c: usize) -> Number
-    ensures { result ≡ stop v c }
+// The number of `count` digits that make `value`, if there are any.
+fn stopped(value: usize, count: usize) -> Option<Number>
+    ensures { result ≡ number_told (stop value count) }
 {
-    if c == 0 {
-        return Number {
-            ok: false,
-            value: 0,
-            count: 0,
-        };
+    if count == 0 {
+        return None;
     }
-    Number {
-        ok: true,
-        value: v,
-        count: c,
-    }
+    Some(Number { value, count })
 }
 
 // The decimal number that a slice begins with, at most `limit`.
-fn read_number(s: &[u8], limit: usize) -> Number
+fn read_number(s: &[u8], limit: usize) -> Option<Number>
     requires { limit ≤ 65535 }
-    ensures { (result ≡ number_of limit s.now) × (result.count ≤ length s.now) × (result.value ≤ limit) }
+    ensures { (result ≡ number_told (number_of limit s.now)) × IfSome result (λ n. (n.count ≤ length s.now) × (n.value ≤ limit)) }
 {
-    if byte_at(s, 0) == 48 {
-        return Number {
-            ok: true,
-            value: 0,
-            count: 1,
-        };
+    if byte_at(s, 0) == b'0' {
+        return Some(Number { value: 0, count: 1 });
     }
-    let mut v = 0;
-    let mut i = 0;
-    while i < s.len() {
-        let b = s[i] as usize;
-        if b < 48 {
-            return stopped(v, i);
+    let mut value = 0;
+    for (i, b) in s.iter().enumerate() {
+        if !b.is_ascii_digit() {
+            return stopped(value, i);
         }
-        if 57 < b {
-            return stopped(v, i);
+        value = value * 10 + usize::from(*b - b'0');
+        if limit < value {
+            return None;
         }
-        let next = v * 10 + (b - 48);
-        if limit < next {
-            return stopped(0, 0);
-        }
-        v = next;
-        i += 1;
     }
-    stopped(v, i)
-}
-
-// The slice s begins with t.
-fn begins(s: &[u8], t: &[u8]) -> bool
-    ensures { result ≡ begins t.now s.now }
-{
-    let mut i = 0;
-    while i < t.len() {
-        if s.len() <= i {
-            return false;
-        }
-        if s[i] != t[i] {
-            return false;
-        }
-        i += 1;
-    }
-    true
-}
-
-// No line of levels.
-fn no_levels() -> Levels
-    ensures { result ≡ no_levels }
-{
-    Levels {
-        ok: false,
-        count: 0,
-        levels: [0u8; 255],
-        used: 0,
-    }
+    stopped(value, s.len())
 }
 
 // The line of levels that a slice begins with.
-fn read_levels(s: &[u8]) -> Levels
-    ensures { (result ≡ levels_of s.now) × (result.used ≤ length s.now) }
+fn read_levels(s: &[u8]) -> Option<Levels>
+    ensures { (result ≡ levels_told (levels_of s.now)) × IfSome result (λ l. l.used ≤ length s.now) }
 {
-    let mut levels = [0u8; 255];
-    if byte_at(s, 0) == 10 {
-        return Levels {
-            ok: true,
+    let mut levels = [0; 255];
+    if byte_at(s, 0) == b'\n' {
+        return Some(Levels {
             count: 0,
-            levels: levels,
+            levels,
             used: 1,
-        };
+        });
     }
-    let mut n = 0;
-    let mut i = 0;
-    while n < 255 {
-        let t = read_number(&s[i..], 255);
-        let c = t.count;
-        if !t.ok {
-            return no_levels();
+    let mut used = 0;
+    for n in 0..255 {
+        let level = read_number(&s[used..], 255)?;
+        levels[n] = level.value as u8;
+        let after = byte_at(s, used + level.count);
+        used += level.count + 1;
+        if after == b'\n' {
+            return Some(Levels {
+                count: n + 1,
+                levels,
+                used,
+            });
         }
-        levels[n] = t.value as u8;
-        n += 1;
-        let b = byte_at(s, i + c);
-        i = i + c + 1;
-        if b == 10 {
-            return Levels {
-                ok: true,
-                count: n,
-                levels: levels,
-                used: i,
-            };
-        }
-        if b != 32 {
-            return no_levels();
+        if after != b' ' {
+            return None;
         }
     }
-    no_levels()
-}
-
-// No header.
-fn no_header() -> Header
-    ensures { result ≡ no_header }
-{
-    Header {
-        ok: false,
-        width: 0,
-        height: 0,
-        used: 0,
-    }
+    None
 }
 
 // The header that a slice begins with.
-fn read_header(s: &[u8]) -> Header
-    ensures { (result ≡ header_of s.now) × (result.used ≤ length s.now) × (result.width ≤ 65535) × (result.height ≤ 65535) }
+fn read_header(s: &[u8]) -> Option<Header>
+    ensures { (result ≡ header_told (header_of s.now)) × IfSome result (λ h. (h.used ≤ length s.now) × (h.width ≤ 65535) × (h.height ≤ 65535)) }
 {
-    if !begins(s, b"P5\n") {
-        return no_header();
+    if !s.starts_with(b"P5\n") {
+        return None;
     }
-    let a = read_number(&s[3..], 65535);
-    if !a.ok {
-        return no_header();
+    let width = read_number(&s[3..], 65535)?;
+    let blank = 3 + width.count;
+    if byte_at(s, blank) != b' ' {
+        return None;
     }
-    let e = 3 + a.count;
-    if byte_at(s, e) != 32 {
-        return no_header();
+    let height = read_number(&s[blank + 1..], 65535)?;
+    let end = blank + 1 + height.count;
+    if !s[end..].starts_with(b"\n255\n") {
+        return None;
     }
-    let f = e + 1;
-    let b = read_number(&s[f..], 65535);
-    if !b.ok {
-        return no_header();
-    }
-    let g = f + b.count;
-    if !begins(&s[g..], b"\n255\n") {
-        return no_header();
-    }
-    Header {
-        ok: true,
-        width: a.value,
-        height: b.value,
-        used: g + 5,
-    }
-}
-
-// Not of the form.
-fn no_form() -> Form
-    ensures { result ≡ no_form }
-{
-    Form {
-        ok: false,
-        width: 0,
-        height: 0,
-        count: 0,
-        levels: [0u8; 255],
-        at: 0,
-    }
+    Some(Header {
+        width: width.value,
+        height: height.value,
+        used: end + 5,
+    })
 }
 
 // Reads the whole input.
-pub fn read_form(input: &[u8]) -> Form
-    ensures { result ≡ form_of input.now }
+pub fn read_form(input: &[u8]) -> Option<Form>
+    ensures { result ≡ form_told (form_of input.now) }
 {
-    let a = read_levels(input);
-    if !a.ok {
-        return no_form();
+    let Levels {
+        count,
+        levels,
+        used,
+    } = read_levels(input)?;
+    let header = read_header(&input[used..])?;
+    let samples = header.width * header.height;
+    let at = used + header.used;
+    if 16384 < samples || input.len() != at + samples {
+        return None;
     }
-    let u = a.used;
-    let b = read_header(&input[u..]);
-    if !b.ok {
-        return no_form();
-    }
-    let w = b.width;
-    let h = b.height;
-    let n = w * h;
-    if 16384 < n {
-        return no_form();
-    }
-    let at = u + b.used;
-    if input.len() != at + n {
-        return no_form();
-    }
-    let levels = a.levels;
-    Form {
-        ok: true,
-        width: w,
-        height: h,
-        count: a.count,
-        levels: levels,
-        at: at,
-    }
+    Some(Form {
+        width: header.width,
+        height: header.height,
+        count,
+        levels,
+        at,
+    })
 }

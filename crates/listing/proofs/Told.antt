@@ -16,15 +16,14 @@ use Rattle.matte.specs.Picture.{Picture, picture}
 use Rattle.enclosure.specs.Tree.{line_count, parent, kind, entry}
 use Rattle.enclosure.proofs.Lines.{Setting}
 use Rattle.enclosure.proofs.Value.{entry_parent, entry_kind}
-use Rattle.form.specs.declared.Form.{Form}
-use Rattle.form.specs.Text.{form_text, Fits}
+use Rattle.form.specs.Text.{FormRead, form_text, Fits}
 use Rattle.form.specs.Reader.{form_of}
 use Rattle.form.proofs.ExactForm.{Formed, form_sound, form_complete, form_levels, form_samples}
 use Rattle.form.proofs.Longest.{form_longest, form_cut}
 use Rattle.text.specs.Listing.{field, kind_letter, line_text, not_form_text}
 use Rattle.listing.specs.Printed.{answered, asked_of, printed}
 
-is_ok : Form → Bool
+is_ok : FormRead → Bool
 is_ok f = f.ok
 
 -- ---- the input
@@ -37,7 +36,7 @@ printed_form ks w h px f =
     rw (ap is_ok e)
     (ap (λ (l : List ℕ). answered (asked_of (form_of s) s) l) (form_levels s t)
     ∙ ap (λ (l : List ℕ). answered (picture (form_of s).width (form_of s).height l) ks) (form_samples s t)
-    ∙ ap (λ (r : Form). answered (picture r.width r.height px) ks) e)
+    ∙ ap (λ (r : FormRead). answered (picture r.width r.height px) ks) e)
 
 pub printed_not_form : (s : List ℕ) → ((ks : List ℕ) (w h : ℕ) (px : List ℕ) → Fits ks w h px → s ≡ form_text ks w h px → ⊥) → printed s ≡ not_form_text
 unfolding printed

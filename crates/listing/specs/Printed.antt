@@ -2,13 +2,13 @@
 -- Definitions: `blank` lent memory of a length; `call_verdict` the tree call's refusal with the program's room; `answered` what is printed for a picture and levels; `asked_of`, `levels_of` the picture and
 --   the levels of input of the form; `printed` what is printed for an input; `Rooms` the memory that is lent.
 use Rattle.std.specs.Prelude.{◌≡◌, cond, List, ℕ, ◌≤◌, eqb, length, take, drop, replicate}
-use Rattle.refuse.specs.declared.Verdict.{Verdict}
+use Rattle.refuse.specs.Refusal.{Verdict}
 use Rattle.matte.specs.Layout.{eight}
 use Rattle.matte.specs.Picture.{Picture, picture}
 use Rattle.outline.specs.List.{listed}
 use Rattle.enclosure.specs.Tree.{entries}
 use Rattle.enclosure.specs.Call.{tree_verdict}
-use Rattle.form.specs.declared.Form.{Form}
+use Rattle.form.specs.Text.{FormRead}
 use Rattle.form.specs.Reader.{form_of}
 use Rattle.text.specs.Listing.{listing_text, refused_text, not_form_text}
 
@@ -28,10 +28,10 @@ answered P ks =
     (refused_text (call_verdict P ks).number)
 
 -- the sides that the input says, and the samples that stand at its end (01, The listing program)
-abbrev pub asked_of : Form → List ℕ → Picture
+abbrev pub asked_of : FormRead → List ℕ → Picture
 asked_of f s = picture f.width f.height (drop f.at s)
 
-abbrev pub levels_of : Form → List ℕ
+abbrev pub levels_of : FormRead → List ℕ
 levels_of f = take f.count f.levels
 
 -- input that is not of the form is refused before anything else (01, The listing program)

@@ -5,7 +5,7 @@ ghost use Rattle.std.specs.Prelude.{◌≡◌, ◌≤◌, length, IfOk};
 ghost use Rattle.text.specs.Put.{Put};
 ghost use Rattle.listing.specs.Printed.{Rooms, printed};
 
-use form::read_form;
+use form::{Form, read_form};
 use std::io;
 use std::io::{Read, Write};
 use text::{put_listing, put_not_form, put_refused};
@@ -22,25 +22,45 @@ fn run(
     requires { Rooms work.old words.old places.old out.old }
     ensures { Put out.old 0 (printed input.now) result out.new }
 {
-    let f = read_form(input);
-    if !f.ok {
+    let Some(form) = read_form(input) else {
         return put_not_form(out);
+    };
+    let Form {
+        width,
+        height,
+        count,
+        levels,
+        at,
+    } = form;
+    let samples = &input[at..];
+    let answer = tree(
+        width,
+        height,
+        samples,
+        &levels[..count],
+        work,
+        words,
+        places,
+    );
+    // The call's answer is C's record, so a refusal is told by its number.
+    if answer.number != 0 {
+        return put_refused(out, answer.number);
     }
-    let w = f.width;
-    let h = f.height;
-    let n = f.count;
-    let at = f.at;
-    let levels = f.levels;
-    let a = tree(w, h, &input[at..], &levels[0..n], work, words, places);
-    if a.number != 0 {
-        return put_refused(out, a.number);
-    }
-    let m = a.words;
-    let l = a.lines;
-    put_listing(out, w, h, &input[at..], n, &words[0..m], l, &places[0..l])
+    let words = &words[..answer.words];
+    let entries = &places[..answer.lines];
+    put_listing(
+        out,
+        width,
+        height,
+        samples,
+        count,
+        words,
+        answer.lines,
+        entries,
+    )
 }
 
-// Room for one byte more than the longest input of the form.
+// Room for one byte more than the longest input of the form. Each room is a function, which says its length: written out in main, the check would count the array up.
 fn input_room() -> [u8; 17420]
     ensures { 17420 ≡ length result }
 {

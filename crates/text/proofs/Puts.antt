@@ -1,14 +1,12 @@
 -- Texts put one after the other. Assumes nothing.
--- Main laws: `put_long` the buffer keeps its length; `then` a text and another one after it; `put_byte` one byte; `put_none` no text; `put_as` the same text said otherwise; `put_start`, `put_next`,
---   `put_end` bytes one by one; `digit_last`, `digit_room`, `digit_more` a number digit by digit; `pair_room`, `pair_last`, `triple_room`, `triple_last` two or three digits at once.
-use mathlib.Core.Path.{◌≡◌, refl, sym, ap, ◌∙◌}
+-- Main laws: `put_long` the buffer keeps its length; `then` a text and another one after it; `put_none` no text; `put_as` the same text said otherwise; `digit_last`, `digit_room`, `digit_more` a number digit by digit; `pair_room`, `pair_last`, `triple_room`, `triple_last` two or three digits at once.
+use mathlib.Core.Path.{◌≡◌, sym, ap, ◌∙◌}
 use mathlib.Core.List.{List, [], ◌∷◌, ◌++◌, append_assoc}
 use Prim.Native.Nat.{ℕ, ◌+◌, ◌/◌, ◌%◌, ◌≤◌, ◌<◌}
 use native.Mathlib.Nat.{add-zero}
-use native.Mathlib.Numerals.{add-one}
 use native.Mathlib.Omega.{arith}
-use lib.ListN.{length, take, drop, set, get_or, length-append, length-drop, take-append-drop}
-use lib.Seq.{length-take-le, set_split, take_at, take-length, drop-append-add, drop-drop, paste, paste-zero, paste-suc}
+use lib.ListN.{length, take, drop, length-append, length-drop, take-append-drop}
+use lib.Seq.{length-take-le, take_at, drop-append-add, drop-drop}
 use Rattle.form.specs.Decimal.{decimal}
 use Rattle.form.proofs.Decimal.{decimal_small, decimal_more}
 use Rattle.text.specs.Put.{written, Put}
@@ -60,33 +58,11 @@ module _ {d : List ℕ} {i : ℕ} {t : List ℕ} {r : ℕ} {e : List ℕ} (p : P
             ∙ ap (λ (m : ℕ). take i d ++ ((t ++ u) ++ drop m d)) z;
       }
 
-pub put_byte : (d : List ℕ) (i b : ℕ) → i < length d → Put d i (b ∷ []) (i + 1) (set d i b)
-put_byte d i b h = record { fits = omega arith; next = refl; is = set_split d i b h ∙ ap (λ (n : ℕ). take i d ++ (b ∷ drop n d)) (sym (add-one i)) }
-
 pub put_none : (d : List ℕ) (i : ℕ) → i ≤ length d → Put d i [] i d
 put_none d i h = record { fits = omega arith; next = omega arith; is = sym (ap (λ (n : ℕ). take i d ++ drop n d) (add-zero i) ∙ take-append-drop i d) }
 
 pub put_as : {d : List ℕ} {i : ℕ} {t u : List ℕ} {r : ℕ} {e : List ℕ} → t ≡ u → Put d i t r e → Put d i u r e
 put_as p x = rw (← p) x
-
--- bytes one by one
-pub put_start : (d : List ℕ) (i : ℕ) (t : List ℕ) → d ≡ paste d i t 0
-put_start d i t = paste-zero d i t
-
-pub put_next : (d : List ℕ) (i : ℕ) (t e : List ℕ) (j : ℕ) → i + j < length d → j < length t → e ≡ paste d i t j → set e (i + j) (get_or t j 0) ≡ paste d i t (j + 1)
-put_next d i t e j h k p = rw (p, add-one) (paste-suc d i t j 0 h k)
-
-pub put_end : (d : List ℕ) (i : ℕ) (t e : List ℕ) (j : ℕ) → i + length t ≤ length d → j ≡ length t → e ≡ paste d i t j → Put d i t (i + j) e
-put_end d i t e j h k p =
-    record {
-      fits = h;
-      next = omega arith;
-      is =
-          p
-          ∙ ap (paste d i t) k
-          ∙ ap (λ (l : List ℕ). take i d ++ l ++ drop (i + length t) d) (take-length t)
-          ∙ append_assoc (take i d) t (drop (i + length t) d);
-    }
 
 -- ---- a number, digit by digit
 module _ (n : ℕ) (d : List ℕ) (i : ℕ) where

@@ -1,15 +1,16 @@
 -- The rows of words: from the numbers at hand to the text, and word after word. Assumes nothing.
 -- Definitions: `Wording` the rows of some words are put.
--- Main laws: `word_row` a crossing's row from its heading and fraction; `start_line`, `start_none` the row of a line before its first word; `begin`, `start_room`, `word_room`, `go`, `end` the words one by one.
+-- Main laws: `word_row` a crossing's row from its heading and fraction; `one_from` 1 for true; `begin`, `start_room`, `word_room`, `go`, `end` the words one by one.
 use mathlib.Core.Path.{◌≡◌, refl, sym, ap, ◌∙◌}
-use mathlib.Core.Bool.{true, false}
+use mathlib.Core.Bool.{Bool, true, false}
 use mathlib.Core.List.{List, [], ◌++◌, append_assoc, append-nil}
-use Prim.Native.Nat.{ℕ, ◌+◌, ◌-◌, ◌*◌, ◌/◌, ◌%◌, ◌≤◌, ◌<◌}
+use Prim.Native.Nat.{ℕ, ◌+◌, ◌-◌, ◌/◌, ◌%◌, ◌≤◌, ◌<◌}
 use native.Mathlib.Numerals.{add-one}
 use native.Mathlib.Omega.{arith}
 use lib.ListN.{length, get_or, take, drop, length-append, drop_of_length-le}
 use lib.Seq.{drop-cons}
-use Rattle.tally.specs.Tally.{one, first_at}
+use Rattle.std.specs.Int.{from_bool}
+use Rattle.tally.specs.Tally.{one}
 use Rattle.tally.proofs.Test.{one_le}
 use Rattle.matte.specs.Layout.{eight}
 use Rattle.matte.specs.Picture.{Picture, picture}
@@ -18,7 +19,7 @@ use Rattle.crossing.specs.declared.Passage.{Passage}
 use Rattle.crossing.specs.Crossing.{passage}
 use Rattle.form.proofs.Line.{part_end}
 use Rattle.text.specs.Put.{Put}
-use Rattle.text.specs.Listing.{letter, row_text, crossing_text, line_text, word_text, start_text, words_text}
+use Rattle.text.specs.Listing.{letter, row_text, crossing_text, word_text, start_text, words_text}
 use Rattle.text.proofs.Puts.{put_long, put_none, put_as, then}
 
 -- ---- a crossing
@@ -27,13 +28,10 @@ module _ (w h : ℕ) (px : List ℕ) (u c k g : ℕ) (t : Passage) (ec : c ≡ c
   unfolding crossing_text
   word_row = rw (eg, et, ek, ec)
 
--- ---- a line's first word
-module _ (n : ℕ) (es : List ℕ) (u : ℕ) (ws : List ℕ) where
-  pub start_line : flagged eight u ≡ true → (k e m : ℕ) → k ≡ level_of eight u → e ≡ get_or es n 0 → m ≡ first_at (flagged eight) ws → start_text eight n es u ws ≡ line_text eight n k e (m + 1)
-  start_line f k e m p q r = rw (f, p, q, r, add-one)
-
-  pub start_none : flagged eight u ≡ false → start_text eight n es u ws ≡ []
-  start_none f = rw f
+-- 1 for true, as the machine has it
+pub one_from : (b : Bool) → from_bool b ≡ one b
+one_from true = refl
+one_from false = refl
 
 -- ---- word after word: the rows of the first i words are put, n of them flagged
 pub record Wording (P : Picture) (es ws d : List ℕ) (from : ℕ) (e : List ℕ) (at n i : ℕ) : Type 0 where

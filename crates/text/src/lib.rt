@@ -2,7 +2,6 @@
 #![tactic(auto)]
 
 ghost use Rattle.std.specs.Prelude.{◌≡◌, [], ◌∷◌, ◌++◌, ◌+◌, ◌*◌, ◌/◌, ◌%◌, ◌≤◌, ◌<◌, length, get_or};
-ghost use Rattle.tally.specs.Tally.{one, first_at};
 ghost use Rattle.matte.specs.Layout.{eight};
 ghost use Rattle.matte.specs.Picture.{picture};
 ghost use Rattle.edgel.specs.Word.{flagged};
@@ -13,6 +12,7 @@ ghost use Rattle.text.specs.Listing.{field, letter, kind_letter, row_text, first
 use crossing::passage_at;
 use edgel::{Heading, code_of, flagged, level_of};
 use form::byte_at;
+use words::run_of;
 
 // One byte.
 fn put_byte(out: &mut [u8], at: usize, b: u8) -> usize
@@ -28,23 +28,24 @@ fn put_two(out: &mut [u8], at: usize, n: usize) -> usize
     requires { (n < 100) × (at + 2 ≤ length out.old) }
     ensures { Put out.old at ((48 + n / 10) ∷ (48 + n % 10) ∷ []) result out.new }
 {
-    let a = put_byte(out, at, 48 + ((n / 10) as u8));
-    put_byte(out, a, 48 + ((n % 10) as u8))
+    let a = put_byte(out, at, b'0' + (n / 10) as u8);
+    put_byte(out, a, b'0' + (n % 10) as u8)
 }
 
 // A number below 1,000 in decimal.
+// Clauses say that what is put fits: each piece has a length of its own.
 fn put_short(out: &mut [u8], at: usize, n: usize) -> usize
     requires { (n < 1000) × (at + length (decimal n) ≤ length out.old) }
     ensures { Put out.old at (decimal n) result out.new }
 {
     if n < 10 {
-        return put_byte(out, at, 48 + (n as u8));
+        put_byte(out, at, b'0' + n as u8)
+    } else if n < 100 {
+        put_two(out, at, n)
+    } else {
+        let a = put_byte(out, at, b'0' + (n / 100) as u8);
+        put_two(out, a, n % 100)
     }
-    if n < 100 {
-        return put_two(out, at, n);
-    }
-    let a = put_byte(out, at, 48 + ((n / 100) as u8));
-    put_two(out, a, n % 100)
 }
 
 // A number in decimal, digit by digit.
@@ -53,10 +54,10 @@ fn put_long(out: &mut [u8], at: usize, n: usize) -> usize
     ensures { Put out.old at (decimal n) result out.new }
 {
     if n < 10 {
-        return put_byte(out, at, 48 + (n as u8));
+        return put_byte(out, at, b'0' + n as u8);
     }
     let a = put_long(out, at, n / 10);
-    put_byte(out, a, 48 + ((n % 10) as u8))
+    put_byte(out, a, b'0' + (n % 10) as u8)
 }
 
 // A number in decimal. Most of them are short.
@@ -65,9 +66,10 @@ fn put_number(out: &mut [u8], at: usize, n: usize) -> usize
     ensures { Put out.old at (decimal n) result out.new }
 {
     if n < 1000 {
-        return put_short(out, at, n);
+        put_short(out, at, n)
+    } else {
+        put_long(out, at, n)
     }
-    put_long(out, at, n)
 }
 
 // A number, and a byte after it.
@@ -85,7 +87,7 @@ fn put_letter(out: &mut [u8], at: usize, b: u8) -> usize
     ensures { Put out.old at (b ∷ 32 ∷ []) result out.new }
 {
     let a = put_byte(out, at, b);
-    put_byte(out, a, 32)
+    put_byte(out, a, b' ')
 }
 
 // The first row: sides, border, and how many levels, words and lines.
@@ -102,12 +104,12 @@ fn put_first(
     requires { at + length (first_text w h border levels words lines) ≤ length out.old }
     ensures { Put out.old at (first_text w h border levels words lines) result out.new }
 {
-    let a = put_field(out, at, w, 32);
-    let b = put_field(out, a, h, 32);
-    let c = put_field(out, b, border as usize, 32);
-    let d = put_field(out, c, levels, 32);
-    let e = put_field(out, d, words, 32);
-    put_field(out, e, lines, 10)
+    let a = put_field(out, at, w, b' ');
+    let b = put_field(out, a, h, b' ');
+    let c = put_field(out, b, border as usize, b' ');
+    let d = put_field(out, c, levels, b' ');
+    let e = put_field(out, d, words, b' ');
+    put_field(out, e, lines, b'\n')
 }
 
 // The row of a crossing: its edgel's left or top end, its heading's letter, its fraction.
@@ -115,21 +117,18 @@ fn put_row(out: &mut [u8], at: usize, x: usize, y: usize, g: u8, num: usize, den
     requires { at + length (row_text x y g num den) ≤ length out.old }
     ensures { Put out.old at (row_text x y g num den) result out.new }
 {
-    let a = put_field(out, at, x, 32);
-    let b = put_field(out, a, y, 32);
+    let a = put_field(out, at, x, b' ');
+    let b = put_field(out, a, y, b' ');
     let c = put_letter(out, b, g);
-    let d = put_field(out, c, num, 32);
-    put_field(out, d, den, 10)
+    let d = put_field(out, c, num, b' ');
+    put_field(out, d, den, b'\n')
 }
 
 // The letter of a tree entry's kind.
 fn kind_letter(entry: u32) -> u8
     ensures { result ≡ kind_letter (flagged eight entry) }
 {
-    if flagged(entry) {
-        return 68;
-    }
-    85
+    if flagged(entry) { b'D' } else { b'U' }
 }
 
 // The row of a line: its number, its level, its tree entry without the kind, its kind, its number of crossings.
@@ -137,11 +136,11 @@ fn put_line(out: &mut [u8], at: usize, n: usize, k: u8, entry: u32, count: usize
     requires { at + length (line_text eight n k entry count) ≤ length out.old }
     ensures { Put out.old at (line_text eight n k entry count) result out.new }
 {
-    let a = put_field(out, at, n, 32);
-    let b = put_field(out, a, k as usize, 32);
-    let c = put_field(out, b, (entry % 2147483648) as usize, 32);
+    let a = put_field(out, at, n, b' ');
+    let b = put_field(out, a, k as usize, b' ');
+    let c = put_field(out, b, (entry % 2147483648) as usize, b' ');
     let d = put_letter(out, c, kind_letter(entry));
-    put_field(out, d, count, 10)
+    put_field(out, d, count, b'\n')
 }
 
 // The letter of a heading.
@@ -149,10 +148,10 @@ fn heading_letter(g: Heading) -> u8
     ensures { result ≡ letter g }
 {
     match g {
-        Heading::South => 83,
-        Heading::East => 69,
-        Heading::North => 78,
-        Heading::West => 87,
+        Heading::South => b'S',
+        Heading::East => b'E',
+        Heading::North => b'N',
+        Heading::West => b'W',
     }
 }
 
@@ -177,56 +176,23 @@ fn put_word(out: &mut [u8], at: usize, w: usize, h: usize, px: &[u8], u: u32) ->
     )
 }
 
-// How many words stand before the next flagged one.
-fn run_of(s: &[u32]) -> usize
-    ensures { (result ≡ first_at (flagged eight) s.now) × (result ≤ length s.now) }
-{
-    let mut i = 0;
-    while i < s.len() {
-        if flagged(s[i]) {
-            return i;
-        }
-        i += 1;
-    }
-    i
-}
-
-// The entry of a line, 0 where there is none.
-fn entry_at(s: &[u32], i: usize) -> u32
-    ensures { result ≡ get_or s.now i 0 }
-{
-    if i < s.len() {
-        return s[i];
-    }
-    0
-}
-
 // The row of the line that a word starts, if it is flagged; `rest` are the words after it.
 fn put_start(out: &mut [u8], at: usize, n: usize, entries: &[u32], u: u32, rest: &[u32]) -> usize
     requires { at + length (start_text eight n entries.now u rest.now) ≤ length out.old }
     ensures { Put out.old at (start_text eight n entries.now u rest.now) result out.new }
 {
-    if flagged(u) {
-        return put_line(
-            out,
-            at,
-            n,
-            level_of(u),
-            entry_at(entries, n),
-            run_of(rest) + 1,
-        );
+    if !flagged(u) {
+        return at;
     }
-    at
-}
-
-// 1 for a flagged word, else 0.
-fn flag_one(u: u32) -> usize
-    ensures { result ≡ one (flagged eight u) }
-{
-    if flagged(u) {
-        return 1;
-    }
-    0
+    let count = run_of(rest) + 1;
+    put_line(
+        out,
+        at,
+        n,
+        level_of(u),
+        entries.get(n).copied().unwrap_or(0),
+        count,
+    )
 }
 
 // The rows of all lines and their crossings.
@@ -244,13 +210,10 @@ fn put_words(
 {
     let mut at = from;
     let mut n = 0;
-    let mut i = 0;
-    while i < words.len() {
-        let u = words[i];
-        i += 1;
-        at = put_start(out, at, n, entries, u, &words[i..]);
-        at = put_word(out, at, w, h, px, u);
-        n += flag_one(u);
+    for (i, u) in words.iter().enumerate() {
+        at = put_start(out, at, n, entries, *u, &words[i + 1..]);
+        at = put_word(out, at, w, h, px, *u);
+        n += usize::from(flagged(*u));
     }
     at
 }
@@ -281,12 +244,9 @@ fn put_bytes(out: &mut [u8], at: usize, t: &[u8]) -> usize
     requires { at + length t.now ≤ length out.old }
     ensures { Put out.old at t.now result out.new }
 {
-    let mut i = 0;
-    while i < t.len() {
-        out[at + i] = t[i];
-        i += 1;
-    }
-    at + i
+    let end = at + t.len();
+    out[at..end].copy_from_slice(t);
+    end
 }
 
 // The refusal of this number.
@@ -295,7 +255,7 @@ pub fn put_refused(out: &mut [u8], number: u32) -> usize
     ensures { Put out.old 0 (refused_text number) result out.new }
 {
     let at = put_bytes(out, 0, b"refused ");
-    put_field(out, at, number as usize, 10)
+    put_field(out, at, number as usize, b'\n')
 }
 
 // The refusal of input that is not of the form.

@@ -1,5 +1,5 @@
 -- `text::put_long` meets its contract: the digits of the tenth, then the last one. Assumes nothing.
-use Rattle.std.proofs.Common.{rules, arith, ap, length}
+use Rattle.std.proofs.Common.{arith, ap, length}
 use Rattle.form.proofs.Decimal.{decimal_small}
 use Rattle.text.proofs.Puts.{digit_last, digit_room, digit_more}
 use Rattle.text.proofs.+put_long.Goals as goal

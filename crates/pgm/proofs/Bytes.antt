@@ -1,14 +1,14 @@
 -- Kinds of bytes apart from one another, and lists whose bytes all pass. Assumes nothing.
 -- Main laws: `digit_no_gap`, `digit_no_white`, `white_no_digit`, `gap_no_digit` a digit is neither white nor begins a comment; `nothing-no-digit` past the end there is no digit.
-use mathlib.Core.Path.{◌≡◌, refl}
-use mathlib.Core.Bool.{Bool, true, false, ◌&&◌, ◌||◌}
+use mathlib.Core.Path.{◌≡◌}
+use mathlib.Core.Bool.{true, false}
 use Prim.Native.Nat.{ℕ, ◌≤◌}
 use native.Mathlib.Omega.{arith}
-use borrow.Author.Tests.{leb-true, ne_eqb, eqb-true, lt-leb, le-leb}
-use lib.Dec.{eqb, leb}
-use Rattle.tally.proofs.Test.{by_test, no, and_1, and_2, or_cases}
+use borrow.Author.Tests.{leb-true, ne_eqb}
+use lib.Dec.{leb}
+use Rattle.tally.proofs.Test.{by_test, no, and_1}
 use Rattle.form.specs.Reader.{is_digit}
-use Rattle.pgm.specs.Grammar.{is_end, is_white, is_hash, in_gap}
+use Rattle.pgm.specs.Grammar.{is_white, in_gap}
 
 digit_least : (b : ℕ) → is_digit b ≡ true → 48 ≤ b
 digit_least b e = leb-true 48 b (and_1 (leb 48 b) (leb b 57) e)

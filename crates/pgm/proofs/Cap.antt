@@ -1,7 +1,7 @@
 -- Values as the code keeps them: past 65,535 one more digit changes nothing. Assumes nothing.
 -- Main laws: `cap_small`, `cap_large`, `cap_most` what a kept value is; `cap_step` one digit more; `cap_number` a number read on from a kept value; `cap_fits` a kept value is at most a small bound exactly if the value is; `cap_side` a kept side fits exactly if the side does.
-use mathlib.Core.Path.{◌≡◌, refl, sym, ap, ◌∙◌}
-use mathlib.Core.Bool.{Bool, true, false, ◌&&◌, cond}
+use mathlib.Core.Path.{◌≡◌, sym, ap, ◌∙◌}
+use mathlib.Core.Bool.{Bool, false, ◌&&◌, cond}
 use mathlib.Core.List.{List, [], ◌∷◌}
 use Prim.Native.Nat.{ℕ, suc, ◌+◌, ◌-◌, ◌*◌, ◌≤◌, ◌<◌}
 use native.Mathlib.Omega.{arith}
@@ -10,7 +10,6 @@ use lib.Dec.{leb}
 use Rattle.tally.proofs.Test.{by_test}
 use Rattle.matte.specs.Picture.{side_fits}
 use Rattle.form.specs.Reader.{is_digit}
-use Rattle.pgm.specs.declared.Number.{Number}
 use Rattle.pgm.specs.Reader.{cap, capped, number_from}
 
 pub cap_small : (v : ℕ) → v ≤ 65535 → cap v ≡ v

@@ -2,33 +2,23 @@
 -- Definitions: `HeadSplit` a header and what follows; `Shown` what a file of the grammar is read as.
 -- Main laws: `head_complete`, `head_sound` the header; `head_again` it is the same before other bytes; `pgm_shown` every file of the grammar is read, as its picture; `shown_pgm` what is read is a file of the grammar; `pgm_done`, `done_pgm` the same of the call.
 use mathlib.Core.Path.{◌≡◌, refl, sym, ap, ◌∙◌, subst}
-use mathlib.Core.Bool.{Bool, true, false, not, ◌&&◌, cond}
+use mathlib.Core.Bool.{Bool, true, false, ◌&&◌}
 use mathlib.Core.List.{List, [], ◌∷◌, ◌++◌, append_assoc}
 use mathlib.Core.Logic.{⊎_elim}
-use Prim.Native.Nat.{ℕ, zero, suc, ◌+◌, ◌*◌, ◌≤◌, ◌<◌}
+use Prim.Native.Nat.{ℕ, suc, ◌+◌, ◌≤◌}
 use native.Mathlib.Omega.{arith}
-use lib.Dec.{eqb, ltb, leb}
+use lib.Dec.{eqb, leb}
 use lib.ListN.{length, get_or, drop}
 use lib.Seq.{get_or-append_seam}
-use borrow.Author.Tests.{eqb-true, eqb-false, le-leb, leb-true, ltb-false, le-ltb}
+use borrow.Author.Tests.{eqb-true, eqb-false, le-leb, leb-true}
 use Rattle.tally.proofs.Test.{by_test, no, and_1, and_2, both, or_cases}
-use Rattle.form.specs.Reader.{is_digit}
-use Rattle.refuse.specs.declared.Verdict.{Verdict}
-use Rattle.refuse.specs.Shape.{Sides}
-use Rattle.refuse.proofs.Rows.{passed, fit}
-use Rattle.refuse.proofs.Sides.{in_sides}
-use Rattle.pgm.specs.declared.Head.{Head}
-use Rattle.pgm.specs.declared.Grey.{Grey}
-use Rattle.pgm.specs.Grammar.{is_white, in_gap, opened, gap, all, letter, Fields, Samples, Pgm}
-use Rattle.pgm.specs.Reader.{Three, stop, is_form, fields_from, headed, head_of, raster_from, samples_from}
-use Rattle.pgm.specs.Call.{pgm_raster, pgm_samples, pgm_verdict, pgm_answer, pgm_room}
+use Rattle.pgm.specs.Reader.{HeadRead}
+use Rattle.pgm.specs.Grammar.{is_white, in_gap, opened, gap, letter, Fields}
+use Rattle.pgm.specs.Reader.{Three, stop, is_form, fields_from, headed, head_of}
 use Rattle.pgm.proofs.Bytes.{gap_no_digit, white_no_digit}
-use Rattle.pgm.proofs.Header.{magic_0, magic_1, magic_2, magic_read, unfit, bare, headed_done, missing, three, byte_inside}
-use Rattle.pgm.proofs.Rows.{samples_length}
+use Rattle.pgm.proofs.Header.{magic_0, magic_1, magic_2, magic_read, unfit, bare, headed_done, three}
 use Rattle.pgm.proofs.Takes.{FieldsSplit, fields_complete, fields_sound}
 use Rattle.form.proofs.Exact.{seam}
-use Rattle.pgm.proofs.Sampled.{samples_complete, samples_sound, head_of_lem}
-use Rattle.pgm.proofs.Verdicts.{Passed}
 
 -- ---- the header
 form_letter : (plain : Bool) → is_form (letter plain) ≡ true
@@ -47,7 +37,7 @@ gap_head (b ∷ g) l a h = and_1 (in_gap false b) (gap (opened false b) g) a
 fields_first : {v : ℕ} {vs x : List ℕ} (u : List ℕ) → Fields (v ∷ vs) x → in_gap false (get_or (x ++ u) 0 0) ≡ true
 fields_first u (Fields.more {t} g d a h n r) = ap (λ (z : List ℕ). in_gap false (get_or z 0 0)) (append_assoc g (d ++ t) u) ∙ gap_head g ((d ++ t) ++ u) a h
 
-abbrev pub read : Bool → ℕ → ℕ → ℕ → ℕ → Head
+abbrev pub read : Bool → ℕ → ℕ → ℕ → ℕ → HeadRead
 read plain w h m at = record { ok = true; plain = plain; width = w; height = h; maximum = m; at = at }
 
 pub head_complete : (plain : Bool) (w h m white : ℕ) (x raster : List ℕ) → Fields (w ∷ h ∷ m ∷ []) x → is_white white ≡ true → 1 ≤ m → m ≤ 255
@@ -74,8 +64,8 @@ pub record HeadSplit (s : List ℕ) : Type 0 where
   pub most : (head_of s).maximum ≤ 255
   pub at : (head_of s).at ≡ 2 + length fields + 1
 
-ok_of : {a b : Head} → a ≡ b → b.ok ≡ false → a.ok ≡ true → ⊥
-ok_of e f o = no o (ap (λ (z : Head). z.ok) e ∙ f)
+ok_of : {a b : HeadRead} → a ≡ b → b.ok ≡ false → a.ok ≡ true → ⊥
+ok_of e f o = no o (ap (λ (z : HeadRead). z.ok) e ∙ f)
 
 pub letter_of : (b : ℕ) → is_form b ≡ true → b ≡ letter (eqb b 50)
 letter_of b e =
@@ -103,7 +93,7 @@ white_head s b l w h m r e f v k i q =
     let c : get_or s (2 + n) 0 ≡ get_or r.t 0 0 =
     ap (λ (z : List ℕ). get_or z (2 + n) 0) e ∙ ap (λ (z : ℕ). get_or (80 ∷ b ∷ l) z 0) j ∙ ap (λ (z : List ℕ). get_or z n 0) r.is ∙ seam r.x r.t (r.x ++ r.t) refl in
     let y = known r.t (get_or r.t 0 0) refl (ap is_white (sym c) ∙ i) in
-    let p : (head_of s).plain ≡ eqb b 50 = ap (λ (z : Head). z.plain) q ∙ ap (λ (z : List ℕ). eqb (get_or z 1 0) 50) e in
+    let p : (head_of s).plain ≡ eqb b 50 = ap (λ (z : HeadRead). z.plain) q ∙ ap (λ (z : List ℕ). eqb (get_or z 1 0) 50) e in
     record {
       fields = r.x;
       white = get_or r.t 0 0;
@@ -111,11 +101,11 @@ white_head s b l w h m r e f v k i q =
       is =
           e ∙ ap (λ (z : List ℕ). 80 ∷ b ∷ z) (r.is ∙ ap (λ (z : List ℕ). r.x ++ z) y)
           ∙ ap (λ (z : ℕ). 80 ∷ z ∷ (r.x ++ (get_or r.t 0 0 ∷ drop 1 r.t))) (letter_of b f ∙ ap letter (sym p));
-      three = subst (λ (z : List ℕ). Fields z r.x) (v ∙ (λ z. sym (ap (λ (k : Head). k.width) q) z ∷ sym (ap (λ (k : Head). k.height) q) z ∷ sym (ap (λ (k : Head). k.maximum) q) z ∷ [])) r.fields;
+      three = subst (λ (z : List ℕ). Fields z r.x) (v ∙ (λ z. sym (ap (λ (k : HeadRead). k.width) q) z ∷ sym (ap (λ (k : HeadRead). k.height) q) z ∷ sym (ap (λ (k : HeadRead). k.maximum) q) z ∷ [])) r.fields;
       one = ap is_white (sym c) ∙ i;
-      least = omega (arith, ap (λ (z : Head). z.maximum) q, leb-true 1 m (and_1 (leb 1 m) (leb m 255) k));
-      most = omega (arith, ap (λ (z : Head). z.maximum) q, leb-true m 255 (and_2 (leb 1 m) (leb m 255) k));
-      at = ap (λ (z : Head). z.at) q;
+      least = omega (arith, ap (λ (z : HeadRead). z.maximum) q, leb-true 1 m (and_1 (leb 1 m) (leb m 255) k));
+      most = omega (arith, ap (λ (z : HeadRead). z.maximum) q, leb-true m 255 (and_2 (leb 1 m) (leb m 255) k));
+      at = ap (λ (z : HeadRead). z.at) q;
     }
   where
     known : (t : List ℕ) (c : ℕ) → c ≡ get_or t 0 0 → is_white c ≡ true → t ≡ get_or t 0 0 ∷ drop 1 t

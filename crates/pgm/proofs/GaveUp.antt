@@ -2,9 +2,9 @@
 -- Definitions: `Mendable` other bytes from there on could have made a header; `Never` with the byte that stands there nothing could; `GaveUp` the place is an early end, the first such byte, or the first byte of an unfit maximum.
 -- Main laws: `gave_up` every header that is refused gave up at such a place; `cut`, `cut_more` a file up to a byte.
 use mathlib.Core.Path.{◌≡◌, refl, sym, ap, ◌∙◌, subst}
-use mathlib.Core.Bool.{Bool, true, false, not, ◌&&◌}
+use mathlib.Core.Bool.{true, false, ◌&&◌}
 use mathlib.Core.List.{List, [], ◌∷◌, ◌++◌, append_assoc}
-use Prim.Native.Nat.{ℕ, zero, suc, ◌+◌, ◌-◌, ◌≤◌, ◌<◌}
+use Prim.Native.Nat.{ℕ, suc, ◌+◌, ◌≤◌, ◌<◌}
 use native.Mathlib.Omega.{arith}
 use lib.Dec.{eqb, leb}
 use lib.ListN.{length, get_or, drop, take, length-append}
@@ -13,10 +13,10 @@ use borrow.Author.Tests.{eqb-true, eqb-false, le-leb, leb-true}
 use Rattle.tally.proofs.Test.{by_test, no, both, and_1, and_2}
 use Rattle.form.specs.Reader.{is_digit}
 use Rattle.form.proofs.Exact.{seam}
-use Rattle.pgm.specs.declared.Head.{Head}
-use Rattle.pgm.specs.Grammar.{is_white, in_gap, is_number, value, letter, Fields}
-use Rattle.pgm.specs.Reader.{Three, stop, is_form, fields_from, headed, head_of}
-use Rattle.pgm.proofs.Bytes.{gap_no_digit, white_no_digit}
+use Rattle.pgm.specs.Reader.{HeadRead}
+use Rattle.pgm.specs.Grammar.{is_white, in_gap, is_number, value, Fields}
+use Rattle.pgm.specs.Reader.{stop, is_form, fields_from, headed, head_of}
+use Rattle.pgm.proofs.Bytes.{gap_no_digit}
 use Rattle.pgm.proofs.Header.{magic_0, magic_1, magic_2, magic_read, unfit, bare, headed_done, missing, three}
 use Rattle.pgm.proofs.Takes.{FieldsSplit, fields_sound, fields_complete}
 use Rattle.pgm.proofs.Exact.{head_complete, letter_of, list_3, gone}
@@ -56,10 +56,10 @@ module _ (a b : ℕ) (x : List ℕ) where
 made : (a b w h m : ℕ) (x more : List ℕ) → a ≡ 80 → is_form b ≡ true → Fields (w ∷ h ∷ m ∷ []) x → 1 ≤ m → m ≤ 255 → (head_of (a ∷ b ∷ (x ++ (10 ∷ more)))).ok ≡ true
 made a b w h m x more e f r l k =
     ap (λ (z : ℕ). (head_of (z ∷ b ∷ (x ++ (10 ∷ more)))).ok) e ∙ ap (λ (z : ℕ). (head_of (80 ∷ z ∷ (x ++ (10 ∷ more)))).ok) (letter_of b f)
-    ∙ ap (λ (z : Head). z.ok) (head_complete (eqb b 50) w h m 10 x more r refl l k)
+    ∙ ap (λ (z : HeadRead). z.ok) (head_complete (eqb b 50) w h m 10 x more r refl l k)
 
-off : {a : Head} {p : ℕ} → a ≡ stop p → a.ok ≡ false
-off e = ap (λ (z : Head). z.ok) e
+off : {a : HeadRead} {p : ℕ} → a ≡ stop p → a.ok ≡ false
+off e = ap (λ (z : HeadRead). z.ok) e
 
 -- ---- the magic
 mend_0 : (s : List ℕ) → Mendable s 0
@@ -170,8 +170,8 @@ unfit_head a b l e f w h m p r v n k =
 wrong_at : (s : List ℕ) (p : ℕ) → p < length s → Mendable s p → Never s p → GaveUp s p
 wrong_at s p h m n = GaveUp.wrong h m n
 
-at_of : {a b : Head} {s : List ℕ} → a ≡ b → GaveUp s b.at → GaveUp s a.at
-at_of {s} e g = subst (λ (z : Head). GaveUp s z.at) (sym e) g
+at_of : {a b : HeadRead} {s : List ℕ} → a ≡ b → GaveUp s b.at → GaveUp s a.at
+at_of {s} e g = subst (λ (z : HeadRead). GaveUp s z.at) (sym e) g
 
 numbers_head : (a b : ℕ) (l : List ℕ) → a ≡ 80 → is_form b ≡ true → in_gap false (get_or l 0 0) ≡ true → (head_of (a ∷ b ∷ l)).ok ≡ false → GaveUp (a ∷ b ∷ l) (head_of (a ∷ b ∷ l)).at
 numbers_head a b l e f i o =
@@ -192,7 +192,7 @@ numbers_head a b l e f i o =
     by_test (leb 1 m && leb m 255)
     (λ u.
     by_test (is_white (get_or s n 0))
-    (λ x. no (ap (λ (z : Head). z.ok) (k ∙ headed_done s w h m g.first n u x)) o)
+    (λ x. no (ap (λ (z : HeadRead). z.ok) (k ∙ headed_done s w h m g.first n u x)) o)
     (λ x.
     let c : get_or s n 0 ≡ get_or r.t 0 0 =
     (let p : n ≡ suc (suc (length r.x)) = omega arith in ap (λ (z : ℕ). get_or s z 0) p ∙ ap (λ (z : List ℕ). get_or z (length r.x) 0) r.is ∙ seam r.x r.t (r.x ++ r.t) refl) in

@@ -1,17 +1,20 @@
 -- The header as it is read: byte by byte of the magic, then number by number. Assumes nothing.
 -- Definitions: `Answers` what the reader of the header has to show.
--- Main laws: `magic_0`, `magic_1`, `magic_2`, `magic_read` the first three bytes; `field_gone`, `field_next` a number that is missing, or there; `field_out`, `field_in` the same of what the code reads; `unfit`, `bare`, `headed_done` the maximum and the white byte; `byte_inside` a byte other than 0 is in the file.
+-- Main laws: `magic_0`, `magic_1`, `magic_2`, `magic_read`, `magic_done` the first three bytes; `field_gone`, `field_next` a number that is missing, or there; `unfit`, `bare`, `headed_done` the maximum and the white byte; `stops`, `head_width`, `head_height`, `head_maximum`, `head_low`, `head_high`, `head_bare`, `head_whole` what each return of the code hands over; `byte_inside` a byte other than 0 is in the file.
 use mathlib.Core.Path.{◌≡◌, refl, sym, ap, ◌∙◌}
-use mathlib.Core.Bool.{Bool, true, false, not, ◌&&◌, ◌||◌, cond}
+use mathlib.Core.Bool.{Bool, true, false, ◌&&◌}
 use mathlib.Core.List.{List, [], ◌∷◌, ◌++◌}
-use Prim.Native.Nat.{ℕ, zero, suc, ◌+◌, ◌≤◌, ◌<◌}
+use Prim.Native.Nat.{ℕ, suc, ◌+◌, ◌≤◌, ◌<◌}
 use native.Mathlib.Omega.{arith}
 use lib.Dec.{eqb, ltb, leb}
 use lib.ListN.{length, get_or, get_or-eq_default}
-use borrow.Author.Tests.{eq-eqb, ne_eqb, le-ltb, lt-ltb, ltb-true, ltb-false, le-leb, lt-leb, leb-true}
+use borrow.Author.Tests.{eq-eqb, ne_eqb, le-ltb, ltb-true, ltb-false, le-leb, lt-leb, leb-true}
 use Rattle.tally.proofs.Test.{by_test, no, both, and_2}
+use Rattle.std.specs.Prelude.{Result, Ok, Err, IfOk}
 use Rattle.pgm.specs.declared.Number.{Number}
 use Rattle.pgm.specs.declared.Head.{Head}
+use Rattle.pgm.specs.Reader.{NumberRead, HeadRead, MagicRead, number_told, head_told}
+use Rattle.pgm.proofs.Steps.{number_given, number_missing, told_there}
 use Rattle.pgm.specs.Grammar.{is_white, in_gap}
 use Rattle.pgm.specs.Reader.{Three, there, stop, is_form, field_at, fields_from, headed, head_of, cap, capped, capped_head}
 use Rattle.pgm.proofs.Cap.{cap_small, cap_fits, cap_least}
@@ -40,6 +43,9 @@ module _ (s : List ℕ) where
       pub magic_read : in_gap false (get_or s 2 0) ≡ true → head_of s ≡ headed s (fields_from s 3 [] 2 2)
       unfolding head_of
       magic_read n = rw (eq-eqb (get_or s 0 0) 80 e, f, n)
+
+      pub magic_done : in_gap false (get_or s 2 0) ≡ true → (b : ℕ) → b ≡ get_or s 1 0 → MagicRead s (eqb b 50)
+      magic_done n b q = record { inside = omega (arith, byte_inside (in_gap false) s 2 refl n); form = ap (λ (z : ℕ). eqb z 50) q; left = magic_read n }
 
   -- ---- a number
   module _ (k : ℕ) (vs : List ℕ) (f p : ℕ) where
@@ -78,59 +84,99 @@ module _ (s : List ℕ) where
   missing f n = refl
 
   -- ---- of what the code reads
-  abbrev pub Answers : Head → Type 0
-  Answers r = (r ≡ capped_head (head_of s)) × (r.ok ≡ true → (r.at ≤ length s) × (r.maximum ≤ 255))
+  abbrev pub Answers : Result Head ℕ → Type 0
+  Answers r = (r ≡ head_told (capped_head (head_of s))) × IfOk r (λ h. h.at ≤ length s)
 
-  pub stops : (r : Head) (p : ℕ) → r ≡ stop p → head_of s ≡ stop p → Answers r
-  stops r p e q = (e ∙ ap capped_head (sym q), λ o. no o (ap (λ (z : Head). z.ok) e))
+  pub stops : (p : ℕ) → head_of s ≡ stop p → Answers (Err p)
+  stops p q = (ap (λ (z : HeadRead). head_told (capped_head z)) (sym q), tt)
 
-  module _ (k : ℕ) (vs : List ℕ) (f p : ℕ) (n : Number) (q : n ≡ capped (field_at s p)) (t : head_of s ≡ headed s (fields_from s (suc k) vs f p)) where
-    pub field_out : (r : Head) → n.next ≤ n.first → r ≡ stop n.first → Answers r
-    field_out r h e =
-        let a : n.first ≡ (field_at s p).first = ap (λ (z : Number). z.first) q in
-        let b : n.next ≡ (field_at s p).next = ap (λ (z : Number). z.next) q in
-        stops r n.first e
-        (t ∙ ap (headed s) (field_gone k vs f p (le-ltb (field_at s p).first (field_at s p).next (omega arith))) ∙ missing (field_at s p).first (field_at s p).first ∙ ap stop (sym a))
+  module _ (k : ℕ) (vs : List ℕ) (f p : ℕ) (t : head_of s ≡ headed s (fields_from s (suc k) vs f p)) where
+    field_out : (a : ℕ) → Err a ≡ number_told (capped (field_at s p)) → Answers (Err a)
+    field_out a e =
+        let g = number_missing (capped (field_at s p)) a e in
+        stops a
+        (t ∙ ap (headed s) (field_gone k vs f p (le-ltb (field_at s p).first (field_at s p).next g.0)) ∙ missing (field_at s p).first (field_at s p).first ∙ ap stop (sym g.1))
 
-    pub field_in : n.first < n.next → head_of s ≡ headed s (fields_from s k (vs ++ ((field_at s p).value ∷ [])) n.first n.next)
-    field_in h =
-        let a : n.first ≡ (field_at s p).first = ap (λ (z : Number). z.first) q in
-        let b : n.next ≡ (field_at s p).next = ap (λ (z : Number). z.next) q in
-        t ∙ ap (headed s) (field_next k vs f p (lt-ltb (field_at s p).first (field_at s p).next (omega arith)))
-        ∙ sym (ap (λ (z : ℕ). headed s (fields_from s k (vs ++ ((field_at s p).value ∷ [])) z n.next)) a ∙ ap (λ (z : ℕ). headed s (fields_from s k (vs ++ ((field_at s p).value ∷ [])) (field_at s p).first z)) b)
+    field_in : (n : Number) → Ok n ≡ number_told (capped (field_at s p)) → head_of s ≡ headed s (fields_from s k (vs ++ ((field_at s p).value ∷ [])) n.first n.next)
+    field_in n e =
+        let g = (number_given (capped (field_at s p)) n e).1 in
+        t ∙ ap (headed s) (field_next k vs f p (told_there (capped (field_at s p)) n e))
+        ∙ ap (λ (z : NumberRead). headed s (fields_from s k (vs ++ ((field_at s p).value ∷ [])) z.first z.next)) (sym g)
 
-  -- all three are there; u is the maximum as it is kept
-  module _ (w h m f n u : ℕ) (q : u ≡ cap m) (t : head_of s ≡ headed s (fields_from s 0 (w ∷ h ∷ m ∷ []) f n)) where
-    all_there : head_of s ≡ headed s (three w h m f n)
-    all_there = t ∙ ap (headed s) (fields_end (w ∷ h ∷ m ∷ []) f n)
+  -- what the code keeps of a number's value
+  kept : (p : ℕ) (n : Number) → Ok n ≡ number_told (capped (field_at s p)) → n.value ≡ cap (field_at s p).value
+  kept p n e = ap (λ (z : NumberRead). z.value) (number_given (capped (field_at s p)) n e).1
 
-    pub max_low : (r : Head) → u < 1 → r ≡ stop f → Answers r
-    max_low r k e =
-        let b : leb 1 m ≡ false = sym (cap_least m) ∙ ap (leb 1) (sym q) ∙ lt-leb 1 u k in
-        stops r f e (all_there ∙ unfit w h m f n (ap (λ (z : Bool). z && leb m 255) b))
+  -- the magic is read, then one number, two, three
+  module _ (plain : Bool) (g : MagicRead s plain) where
+    pub head_width : (a : ℕ) → Err a ≡ number_told (capped (field_at s 2)) → Answers (Err a)
+    head_width = field_out 2 [] 2 2 g.left
 
-    pub max_high : (r : Head) → 1 ≤ u → 255 < u → r ≡ stop f → Answers r
-    max_high r l k e =
-        let a : leb 1 m ≡ true = sym (cap_least m) ∙ ap (leb 1) (sym q) ∙ le-leb 1 u l in
-        let b : leb m 255 ≡ false = sym (cap_fits m 255 (omega arith)) ∙ ap (λ (z : ℕ). leb z 255) (sym q) ∙ lt-leb u 255 k in
-        stops r f e (all_there ∙ unfit w h m f n (ap (λ (z : Bool). z && leb m 255) a ∙ b))
+    module _ (x : Number) (ex : Ok x ≡ number_told (capped (field_at s 2))) where
+      w : ℕ
+      w = (field_at s 2).value
 
-    module _ (l : 1 ≤ u) (k : u ≤ 255) where
-      fit : (leb 1 m && leb m 255) ≡ true
-      fit = both (sym (cap_least m) ∙ ap (leb 1) (sym q) ∙ le-leb 1 u l) (sym (cap_fits m 255 (omega arith)) ∙ ap (λ (z : ℕ). leb z 255) (sym q) ∙ le-leb u 255 k)
+      one_read : head_of s ≡ headed s (fields_from s 2 (w ∷ []) x.first x.next)
+      unfolding w
+      one_read = field_in 2 [] 2 2 g.left x ex
 
-      pub no_white : (r : Head) → is_white (get_or s n 0) ≡ false → r ≡ stop n → Answers r
-      no_white r b e = stops r n e (all_there ∙ bare w h m f n fit b)
+      pub head_height : (a : ℕ) → Err a ≡ number_told (capped (field_at s x.next)) → Answers (Err a)
+      head_height = field_out 1 (w ∷ []) x.first x.next one_read
 
-      pub whole : (x y : ℕ) → x ≡ cap w → y ≡ cap h → is_white (get_or s n 0) ≡ true → Answers (record { ok = true; plain = eqb (get_or s 1 0) 50; width = x; height = y; maximum = u; at = n + 1 })
-      whole x y d g b =
-          let v : m ≡ u = by_small in
-          let i : n < length s = byte_inside is_white s n refl b in (
-            sym
-                (ap capped_head (all_there ∙ headed_done w h m f n fit b)
-                ∙ (λ z. record { ok = true; plain = eqb (get_or s 1 0) 50; width = sym d z; height = sym g z; maximum = v z; at = n + 1 })),
-            λ o. (omega arith, k),
-          )
-        where
-          by_small : m ≡ u
-          by_small = sym (q ∙ cap_small m (omega (arith, leb-true m 255 (and_2 (leb 1 m) (leb m 255) fit))))
+      module _ (y : Number) (ey : Ok y ≡ number_told (capped (field_at s x.next))) where
+        h : ℕ
+        h = (field_at s x.next).value
+
+        two_read : head_of s ≡ headed s (fields_from s 1 (w ∷ h ∷ []) y.first y.next)
+        unfolding h
+        two_read = field_in 1 (w ∷ []) x.first x.next one_read y ey
+
+        pub head_maximum : (a : ℕ) → Err a ≡ number_told (capped (field_at s y.next)) → Answers (Err a)
+        head_maximum = field_out 0 (w ∷ h ∷ []) y.first y.next two_read
+
+        module _ (u : Number) (eu : Ok u ≡ number_told (capped (field_at s y.next))) where
+          m : ℕ
+          m = (field_at s y.next).value
+
+          all_there : head_of s ≡ headed s (three w h m u.first u.next)
+          unfolding m
+          all_there = field_in 0 (w ∷ h ∷ []) y.first y.next two_read u eu ∙ ap (headed s) (fields_end (w ∷ h ∷ m ∷ []) u.first u.next)
+
+          value_is : u.value ≡ cap m
+          unfolding m
+          value_is = kept y.next u eu
+
+          pub head_low : u.value < 1 → Answers (Err u.first)
+          head_low k =
+              let b : leb 1 m ≡ false = sym (cap_least m) ∙ ap (leb 1) (sym value_is) ∙ lt-leb 1 u.value k in
+              stops u.first (all_there ∙ unfit w h m u.first u.next (ap (λ (z : Bool). z && leb m 255) b))
+
+          module _ (l : 1 ≤ u.value) where
+            least : leb 1 m ≡ true
+            least = sym (cap_least m) ∙ ap (leb 1) (sym value_is) ∙ le-leb 1 u.value l
+
+            pub head_high : 255 < u.value → Answers (Err u.first)
+            head_high k =
+                let b : leb m 255 ≡ false = sym (cap_fits m 255 (omega arith)) ∙ ap (λ (z : ℕ). leb z 255) (sym value_is) ∙ lt-leb u.value 255 k in
+                stops u.first (all_there ∙ unfit w h m u.first u.next (ap (λ (z : Bool). z && leb m 255) least ∙ b))
+
+            module _ (k : u.value ≤ 255) where
+              fit : (leb 1 m && leb m 255) ≡ true
+              fit = both least (sym (cap_fits m 255 (omega arith)) ∙ ap (λ (z : ℕ). leb z 255) (sym value_is) ∙ le-leb u.value 255 k)
+
+              pub head_bare : is_white (get_or s u.next 0) ≡ false → Answers (Err u.next)
+              head_bare b = stops u.next (all_there ∙ bare w h m u.first u.next fit b)
+
+              pub head_whole : is_white (get_or s u.next 0) ≡ true
+                  → Answers (Ok (record { plain = plain; width = x.value; height = y.value; maximum = u.value; at = u.next + 1 }))
+              unfolding w h
+              head_whole b =
+                  let v : m ≡ u.value = sym (value_is ∙ cap_small m (omega (arith, leb-true m 255 (and_2 (leb 1 m) (leb m 255) fit)))) in
+                  let i : u.next < length s = byte_inside is_white s u.next refl b in
+                  let p = ap capped_head (all_there ∙ headed_done w h m u.first u.next fit b) in (
+                    sym
+                        (ap head_told
+                        (p
+                        ∙ (λ z. record { ok = true; plain = sym g.form z; width = sym (kept 2 x ex) z; height = sym (kept x.next y ey) z; maximum = v z; at = u.next + 1 }))),
+                    omega arith,
+                  )

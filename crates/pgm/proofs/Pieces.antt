@@ -2,18 +2,16 @@
 -- Definitions: `GapSplit`, `WhiteSplit`, `NumberSplit` a list parted where a gap, white space or a number ends.
 -- Main laws: `gap_over`, `gap_stops`, `white_over`, `white_stops`, `number_over` what reading passes over, and where it ends; `gap_split`, `white_split`, `number_split` every list parts so; `shift` what stands after a first part.
 use mathlib.Core.Path.{◌≡◌, refl, sym, ap, ◌∙◌}
-use mathlib.Core.Bool.{Bool, true, false, not, ◌&&◌, ◌||◌, cond}
+use mathlib.Core.Bool.{Bool, true, false, not}
 use mathlib.Core.List.{List, [], ◌∷◌, ◌++◌}
-use Prim.Native.Nat.{ℕ, suc, ◌+◌, ◌-◌, ◌*◌, ◌≤◌, ◌<◌}
+use Prim.Native.Nat.{ℕ, suc, ◌+◌, ◌-◌, ◌*◌, ◌<◌}
 use native.Mathlib.Omega.{arith}
-use lib.Dec.{eqb}
 use lib.ListN.{length, get_or, drop}
 use lib.Seq.{drop-drop, drop-append_seam}
-use borrow.Author.Tests.{not-true, not-false}
+use borrow.Author.Tests.{not-true}
 use Rattle.tally.proofs.Test.{by_test, no, and_1, and_2, both}
 use Rattle.form.specs.Reader.{is_digit}
-use Rattle.pgm.specs.declared.Number.{Number}
-use Rattle.pgm.specs.Grammar.{is_end, is_white, is_hash, in_gap, opened, gap, all, value_from}
+use Rattle.pgm.specs.Grammar.{is_white, in_gap, opened, gap, all, value_from}
 use Rattle.pgm.specs.Reader.{gap_from, white_from, number_from}
 
 -- what stands after a part

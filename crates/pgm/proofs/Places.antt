@@ -2,23 +2,21 @@
 -- Definitions: `ones` numbers 1; `Stuck` numbers of a header that stop; `LastSplit` where the last of them begins.
 -- Main laws: `fields_stuck` a header's numbers stop where other bytes could have made them whole, and at a byte with which none could; `last_split` the last number that is read.
 use mathlib.Core.Path.{◌≡◌, refl, sym, ap, ◌∙◌, subst}
-use mathlib.Core.Bool.{Bool, true, false, not, ◌&&◌}
+use mathlib.Core.Bool.{true, false}
 use mathlib.Core.List.{List, [], ◌∷◌, ◌++◌, append_assoc}
-use Prim.Native.Nat.{ℕ, zero, suc, ◌+◌, ◌-◌, ◌≤◌, ◌<◌}
+use Prim.Native.Nat.{ℕ, zero, suc, ◌+◌, ◌-◌, ◌≤◌}
 use native.Mathlib.Omega.{arith}
-use lib.Dec.{ltb, leb}
 use lib.ListN.{length, get_or, drop, replicate, length-append, length-replicate, get_or-replicate}
 use lib.Seq.{append_snoc}
-use borrow.Author.Tests.{le-ltb, ltb-true, ltb-false}
-use Rattle.tally.proofs.Test.{by_test, no, and_1, and_2, both}
+use borrow.Author.Tests.{ltb-false}
+use Rattle.tally.proofs.Test.{by_test, no}
 use Rattle.form.specs.Reader.{is_digit}
-use Rattle.refuse.specs.declared.Verdict.{Verdict}
-use Rattle.pgm.specs.declared.Number.{Number}
-use Rattle.pgm.specs.Grammar.{is_white, in_gap, gap, all, is_number, value_from, value, Fields, Samples}
-use Rattle.pgm.specs.Reader.{Three, there, gap_from, gap_end, number_from, number_at, field_at, fields_from, sample_at, raster_from}
+use Rattle.pgm.specs.Reader.{NumberRead}
+use Rattle.pgm.specs.Grammar.{in_gap, gap, all, is_number, value_from, value, Fields}
+use Rattle.pgm.specs.Reader.{Three, there, gap_from, gap_end, number_from, number_at, field_at, fields_from}
 use Rattle.pgm.proofs.Header.{field_gone, field_next, fields_end}
 use Rattle.pgm.proofs.Pieces.{shift, gap_over, gap_stops, number_over}
-use Rattle.pgm.proofs.Takes.{FieldSplit, field_split, field_complete, found_there, found_not, number_long, Full, full, first_digit}
+use Rattle.pgm.proofs.Takes.{FieldSplit, field_split, field_complete, found_there, found_not, number_long, Full, full}
 
 -- ---- numbers of a header
 -- k numbers 1, a newline before each
@@ -55,7 +53,7 @@ pub record Stuck (s : List ℕ) (k p : ℕ) (l : List ℕ) (place : ℕ) : Type 
 
 gone_at : (s : List ℕ) (k : ℕ) (was : List ℕ) (f p a v : ℕ) → field_at s p ≡ record { first = a; value = v; next = a + 0 }
     → fields_from s (suc k) was f p ≡ record { ok = false; values = []; first = a; next = a }
-gone_at s k was f p a v e = field_gone s k was f p (found_not (field_at s p) a v e) ∙ ap (λ (n : Number). record { ok = false; values = []; first = n.first; next = n.first }) e
+gone_at s k was f p a v e = field_gone s k was f p (found_not (field_at s p) a v e) ∙ ap (λ (n : NumberRead). record { ok = false; values = []; first = n.first; next = n.first }) e
 
 last_one : (k : ℕ) → ◌≡◌ {A = ℕ} (get_or (replicate (suc k) 1) (suc k - 1) 0) 1
 last_one k = get_or-replicate (suc k) (suc k - 1) 1 0 (omega arith)
@@ -80,7 +78,7 @@ stuck_here s k was f p l r h =
       x = r.g;
       y = r.t;
       is = r.is ∙ ap (λ (z : List ℕ). r.g ++ z) m;
-      at = ap (λ (z : Three). z.first) (field_gone s k was f p h) ∙ ap (λ (z : Number). z.first) r.found;
+      at = ap (λ (z : Three). z.first) (field_gone s k was f p h) ∙ ap (λ (z : NumberRead). z.first) r.found;
       ws = replicate (suc k) 1;
       z = ones (suc k);
       mends = one_more k r.g r.ended;
@@ -136,7 +134,7 @@ stuck_later s k was f p l r y h c =
           let e3 = shift s' d (c.x ++ (b ∷ t')) (p' + length g) (shift s' g (d ++ (c.x ++ (b ∷ t'))) p' e2) in
           let o : p2 + length c.x ≡ p' + length (g ++ (d ++ c.x)) = omega (arith, length-append g (d ++ c.x), length-append d c.x) in
           field_next s' k was' f' p' (found_there (field_at s' p') (p' + length g) (length d) (value d) (number_long d y.number) n)
-          ∙ ap (λ (z : Number). fields_from s' k (was' ++ (z.value ∷ [])) z.first z.next) n
+          ∙ ap (λ (z : NumberRead). fields_from s' k (was' ++ (z.value ∷ [])) z.first z.next) n
           ∙ c.never b t q s' (was' ++ (value d ∷ [])) (p' + length g) p2 t' e3
           ∙ (λ z. record { ok = false; values = []; first = o z; next = o z });
     }
@@ -148,7 +146,7 @@ fields_stuck s (suc k) was f p l e i o =
     let r = field_split s p l e in
     by_test (there (field_at s p))
     (λ h.
-    let q = field_next s k was f p h ∙ ap (λ (z : Number). fields_from s k (was ++ (z.value ∷ [])) z.first z.next) r.found in
+    let q = field_next s k was f p h ∙ ap (λ (z : NumberRead). fields_from s k (was ++ (z.value ∷ [])) z.first z.next) r.found in
     let c = fields_stuck s k (was ++ (value r.d ∷ [])) (p + length r.g) (p + length r.g + length r.d) r.t r.rest r.stops (ap (λ (z : Three). z.ok) (sym q) ∙ o) in
     stuck_later s k was f p l r (full s p l r h i) h (rw (ap (λ (z : Three). z.first) q) c))
     (λ h. stuck_here s k was f p l r h)
@@ -170,7 +168,7 @@ pub record LastSplit (s : List ℕ) (k : ℕ) (was : List ℕ) (f p : ℕ) (l : 
 -- what reading goes on with after a number
 on : (s : List ℕ) (k : ℕ) (was : List ℕ) (f p : ℕ) (l : List ℕ) (r : FieldSplit s p l) → there (field_at s p) ≡ true
     → fields_from s (suc k) was f p ≡ fields_from s k (was ++ (value r.d ∷ [])) (p + length r.g) (p + length r.g + length r.d)
-on s k was f p l r h = field_next s k was f p h ∙ ap (λ (z : Number). fields_from s k (was ++ (z.value ∷ [])) z.first z.next) r.found
+on s k was f p l r h = field_next s k was f p h ∙ ap (λ (z : NumberRead). fields_from s k (was ++ (z.value ∷ [])) z.first z.next) r.found
 
 is_read : (s : List ℕ) (k : ℕ) (was : List ℕ) (f p : ℕ) → (fields_from s (suc k) was f p).ok ≡ true → there (field_at s p) ≡ true
 is_read s k was f p o = by_test (there (field_at s p)) (λ h. h) (λ h. no o (ap (λ (z : Three). z.ok) (field_gone s k was f p h)))

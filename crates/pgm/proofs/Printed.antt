@@ -1,11 +1,11 @@
 -- A picture printed in either form is read as that picture. Assumes nothing.
 -- Main laws: `value_decimal`, `decimal_number` a number in decimal is a number of the grammar; `text_fields`, `text_samples` so are numbers one after the other; `printed_pgm` the printed picture is a file of the grammar; `printed_reads` it is read as the picture, so both forms alike; `read_printed` what was read, printed, is read as the same.
 use mathlib.Core.Path.{◌≡◌, refl, sym, ap, ◌∙◌, subst}
-use mathlib.Core.Bool.{Bool, true, false, ◌&&◌}
+use mathlib.Core.Bool.{Bool, true, false}
 use mathlib.Core.List.{List, [], ◌∷◌, ◌++◌}
-use Prim.Native.Nat.{ℕ, ◌+◌, ◌-◌, ◌*◌, ◌/◌, ◌%◌, ◌≤◌, ◌<◌}
+use Prim.Native.Nat.{ℕ, ◌+◌, ◌-◌, ◌*◌, ◌/◌, ◌%◌, ◌≤◌}
 use native.Mathlib.Omega.{arith}
-use lib.Dec.{ltb, leb}
+use lib.Dec.{leb}
 use lib.ListN.{length, get_or, drop}
 use borrow.Author.Tests.{lt-ltb}
 use Rattle.tally.proofs.Test.{and_1, and_2, both}
@@ -14,7 +14,7 @@ use Rattle.form.specs.Decimal.{decimal}
 use Rattle.form.specs.Reader.{is_digit}
 use Rattle.form.proofs.Decimal.{by_digits, decimal_small, decimal_more, decimal_some}
 use Rattle.form.proofs.Numbers.{is_digit_lem}
-use Rattle.pgm.specs.Grammar.{gap, all, is_number, value_from, value, letter, Fields, Samples, Pgm}
+use Rattle.pgm.specs.Grammar.{gap, all, is_number, value_from, value, Fields, Samples, Pgm}
 use Rattle.pgm.specs.Reader.{head_of}
 use Rattle.pgm.specs.Call.{pgm_samples, pgm_verdict, pgm_answer, pgm_room}
 use Rattle.pgm.specs.Writer.{numbers_text, raster_text, pgm_text}

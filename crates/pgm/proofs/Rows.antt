@@ -1,22 +1,25 @@
 -- The samples one by one: what is refused of them, and their values. Assumes nothing.
--- Definitions: `Writing` some samples are written, the others are still to be read.
--- Main laws: `raster_none`, `raster_24`, `raster_23`, `raster_more` one sample; `raw_past`, `raw_here` a sample of P5; `raw_fit` nothing is refused where every byte fits; `raw_inside`, `raw_list` then all are there, and are the bytes;
+-- Definitions: `Good` a sample that is not refused.
+-- Main laws: `raster_none`, `raster_24`, `raster_23`, `raster_more` one sample; `raw_past`, `raw_here` a sample of P5; `raw_fit` nothing is refused where every byte fits; `raw_inside`, `raw_list` then all are there, and are the bytes; `part_length`, `part_fits`, `raw_copy` the same of the bytes as a list;
 --   `kind-of`, `raster_rows` only 23 and 24 are given, as the rows of the call say.
 use mathlib.Core.Path.{◌≡◌, refl, sym, ap, ◌∙◌}
 use mathlib.Core.Bool.{Bool, true, false, cond}
-use mathlib.Core.List.{List, [], ◌∷◌, ◌++◌}
+use mathlib.Core.List.{List, [], ◌∷◌}
 use Prim.Native.Nat.{ℕ, zero, suc, ◌+◌, ◌-◌, ◌≤◌, ◌<◌}
-use native.Mathlib.Nat.{add-zero, add-suc, suc-add}
+use native.Mathlib.Nat.{add-zero}
 use native.Mathlib.Omega.{arith}
 use lib.Dec.{eqb, ltb, leb}
-use lib.ListN.{length, get_or, drop}
-use borrow.Author.Tests.{lt-ltb, le-ltb, ltb-true, ltb-false, leb-true, leb-false, le-leb, lt-leb}
-use Rattle.tally.specs.Tally.{build}
+use lib.ListN.{length, get_or, take, drop, length-drop}
+use lib.Seq.{get_or-drop, length-take-le}
+use Rattle.std.proofs.lemmas.List.{get_or-take}
+use borrow.Author.Tests.{lt-ltb, le-ltb, ltb-true, ltb-false, leb-true, le-leb, lt-leb}
+use Rattle.tally.specs.Tally.{build, every}
 use Rattle.tally.proofs.Test.{by_test, no}
 use Rattle.tally.proofs.Build.{is_build}
-use Rattle.refuse.specs.declared.Verdict.{Verdict}
+use Rattle.tally.proofs.Every.{every_same}
+use Rattle.refuse.specs.Refusal.{Verdict}
 use Rattle.refuse.specs.Refusal.{row_at, verdict}
-use Rattle.pgm.specs.declared.Number.{Number}
+use Rattle.pgm.specs.Reader.{NumberRead}
 use Rattle.pgm.specs.Reader.{there, raw_at, sample_at, raster_from, samples_from}
 
 abbrev pub done : Verdict
@@ -69,21 +72,21 @@ module _ (s : List ℕ) (m : ℕ) where
   raw_24 k j p z h =
       rw z
       (raster_24 s false m j p (ap there (raw_past s p h) ∙ le-ltb p p (omega arith))
-      ∙ ap (λ (n : Number). record { number = 24; place = n.first }) (raw_past s p h))
+      ∙ ap (λ (n : NumberRead). record { number = 24; place = n.first }) (raw_past s p h))
 
   pub raw_23 : (k j p : ℕ) → k ≡ suc j → p < length s → m < get_or s p 0 → raster_from s false m k p ≡ record { number = 23; place = p }
   raw_23 k j p z h q =
       let e = raw_here s p h in
       rw z
-      (raster_23 s false m j p (ap there e ∙ lt-ltb p (suc p) (omega arith)) (ap (λ (n : Number). leb n.value m) e ∙ lt-leb (get_or s p 0) m q)
-      ∙ ap (λ (n : Number). record { number = 23; place = n.first }) e)
+      (raster_23 s false m j p (ap there e ∙ lt-ltb p (suc p) (omega arith)) (ap (λ (n : NumberRead). leb n.value m) e ∙ lt-leb (get_or s p 0) m q)
+      ∙ ap (λ (n : NumberRead). record { number = 23; place = n.first }) e)
 
   pub raw_more : (k j p : ℕ) → k ≡ suc j → p < length s → get_or s p 0 ≤ m → raster_from s false m k p ≡ raster_from s false m j (p + 1)
   raw_more k j p z h q =
       let e = raw_here s p h in
       rw z
-      (raster_more s false m j p (ap there e ∙ lt-ltb p (suc p) (omega arith)) (ap (λ (n : Number). leb n.value m) e ∙ le-leb (get_or s p 0) m q)
-      ∙ ap (λ (n : Number). raster_from s false m j n.next) e
+      (raster_more s false m j p (ap there e ∙ lt-ltb p (suc p) (omega arith)) (ap (λ (n : NumberRead). leb n.value m) e ∙ le-leb (get_or s p 0) m q)
+      ∙ ap (λ (n : NumberRead). raster_from s false m j n.next) e
       ∙ ap (raster_from s false m j) (omega arith))
 
   pub raw_fit : (n p : ℕ) → p + n ≤ length s → ((j : ℕ) → j < n → leb (get_or s (p + j) 0) m ≡ true) → raster_from s false m n p ≡ done
@@ -100,7 +103,7 @@ module _ (s : List ℕ) (m : ℕ) where
       (λ t.
       let l = ltb-true p (length s) t in
       let e = raw_here s p l in
-      let r = raw_inside n (suc p) (omega arith) (ap (λ (x : Number). (raster_from s false m n x.next).number) (sym e) ∙ g.rest) in
+      let r = raw_inside n (suc p) (omega arith) (ap (λ (x : NumberRead). (raster_from s false m n x.next).number) (sym e) ∙ g.rest) in
       omega arith)
       (λ t. no g.is_there (ap there (raw_past s p (ltb-false p (length s) t)) ∙ le-ltb p p (omega arith)))
 
@@ -123,6 +126,19 @@ raw_at_lem s (suc n) p (suc j) h k =
 
 pub raw_list : (s : List ℕ) (n p : ℕ) → p + n ≤ length s → samples_from s false n p ≡ build (λ j. get_or s (p + j) 0) 0 n
 raw_list s n p h = is_build (λ j. get_or s (p + j) 0) (samples_from s false n p) n (samples_length s false n p) (λ j k. raw_at_lem s n p j h k)
+
+-- ---- n bytes from p on, as a list
+part_at : (s : List ℕ) (p n j : ℕ) → j < n → get_or (take (p + n - p) (drop p s)) j 0 ≡ get_or s (p + j) 0
+part_at s p n j h = get_or-take (p + n - p) (drop p s) j 0 (omega arith) ∙ get_or-drop p s j 0
+
+pub part_length : (s : List ℕ) (p n : ℕ) → p + n ≤ length s → length (take (p + n - p) (drop p s)) ≡ n
+part_length s p n h = length-take-le (p + n - p) (drop p s) (omega (arith, length-drop p s)) ∙ omega arith
+
+pub part_fits : (s : List ℕ) (m p n : ℕ) → every (λ j. leb (get_or (take (p + n - p) (drop p s)) j 0) m) n ≡ every (λ j. leb (get_or s (p + j) 0) m) n
+part_fits s m p n = every_same _ _ n (λ j k. ap (λ (z : ℕ). leb z m) (part_at s p n j k))
+
+pub raw_copy : (s : List ℕ) (n p : ℕ) → p + n ≤ length s → take (p + n - p) (drop p s) ≡ samples_from s false n p
+raw_copy s n p h = is_build (λ j. get_or s (p + j) 0) (take (p + n - p) (drop p s)) n (part_length s p n h) (λ j k. part_at s p n j k) ∙ sym (raw_list s n p h)
 
 -- ---- what is given: 23, 24 or nothing
 pub raster_rows : (s : List ℕ) (plain : Bool) (m n p : ℕ)

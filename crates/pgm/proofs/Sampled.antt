@@ -3,8 +3,8 @@
 -- Main laws: `head_of_lem` a byte and what follows; `plain_split` white space and digits, as far as they go; `samples_complete` the grammar's samples are read; `samples_sound` what is read are the grammar's samples.
 use mathlib.Core.Path.{◌≡◌, refl, sym, ap, ◌∙◌}
 use mathlib.Core.Bool.{Bool, true, false}
-use mathlib.Core.List.{List, [], ◌∷◌, ◌++◌}
-use Prim.Native.Nat.{ℕ, zero, suc, ◌+◌, ◌-◌, ◌≤◌, ◌<◌}
+use mathlib.Core.List.{List, ◌∷◌, ◌++◌}
+use Prim.Native.Nat.{ℕ, zero, suc, ◌+◌, ◌-◌, ◌<◌}
 use native.Mathlib.Nat.{add-zero}
 use native.Mathlib.Omega.{arith}
 use lib.Dec.{ltb, leb}
@@ -13,9 +13,9 @@ use lib.Seq.{get_or-drop, drop-drop, drop-cons}
 use borrow.Author.Tests.{lt-ltb, le-ltb, ltb-true, ltb-false}
 use Rattle.tally.proofs.Test.{by_test, no, and_1, and_2, both}
 use Rattle.form.specs.Reader.{is_digit}
-use Rattle.pgm.specs.declared.Number.{Number}
+use Rattle.pgm.specs.Reader.{NumberRead}
 use Rattle.pgm.specs.Grammar.{is_white, all, is_number, value, Samples}
-use Rattle.pgm.specs.Reader.{there, white_from, white_end, number_from, number_at, plain_at, raw_at, sample_at, raster_from, samples_from}
+use Rattle.pgm.specs.Reader.{there, white_from, white_end, number_from, number_at, plain_at, sample_at, raster_from, samples_from}
 use Rattle.pgm.proofs.Bytes.{digit_no_white}
 use Rattle.pgm.proofs.Rows.{done, raster_none, raster_more, good, raw_here, raw_past, samples_more}
 use Rattle.pgm.proofs.Pieces.{shift, white_over, white_stops, number_over, white_split, number_split}
@@ -54,11 +54,11 @@ samples_complete {plain} s m p Samples.none e f = record { fine = raster_none s 
 samples_complete s m p (Samples.raw {px} {s = t} b r) e f =
     let q = head_of_lem s p b t e in
     let w = raw_here s p q.0 in
-    one_more s false m b p (suc p) px (ap there w ∙ lt-ltb p (suc p) (omega arith)) (ap (λ (z : Number). z.value) w ∙ q.1) (ap (λ (z : Number). z.next) w) (and_1 (leb b m) (all (λ v. leb v m) px) f)
+    one_more s false m b p (suc p) px (ap there w ∙ lt-ltb p (suc p) (omega arith)) (ap (λ (z : NumberRead). z.value) w ∙ q.1) (ap (λ (z : NumberRead). z.next) w) (and_1 (leb b m) (all (λ v. leb v m) px) f)
     (samples_complete s m (suc p) r q.2 (and_2 (leb b m) (all (λ v. leb v m) px) f))
 samples_complete s m p (Samples.text {px} {s = t} g d a n i r) e f =
     let w = plain_complete s p g d t e a n i in
-    one_more s true m (value d) p (p + length g + length d) px (found_there (plain_at s p) (p + length g) (length d) (value d) (number_long d n) w) (ap (λ (z : Number). z.value) w) (ap (λ (z : Number). z.next) w)
+    one_more s true m (value d) p (p + length g + length d) px (found_there (plain_at s p) (p + length g) (length d) (value d) (number_long d n) w) (ap (λ (z : NumberRead). z.value) w) (ap (λ (z : NumberRead). z.next) w)
     (and_1 (leb (value d) m) (all (λ v. leb v m) px) f)
     (samples_complete s m (p + length g + length d) r (shift s d t (p + length g) (shift s g (d ++ t) p e)) (and_2 (leb (value d) m) (all (λ v. leb v m) px) f))
 
@@ -114,10 +114,10 @@ samples_sound s false m (suc k) p l e z =
     (λ h.
     let w = raw_here s p (ltb-true p (length s) h) in
     let n : l ≡ get_or s p 0 ∷ drop (suc p) s = sym e ∙ drop-cons s p 0 (ltb-true p (length s) h) in
-    let r = samples_sound s false m k (suc p) (drop (suc p) s) refl (ap (λ (y : Number). (raster_from s false m k y.next).number) (sym w) ∙ g.rest) in
+    let r = samples_sound s false m k (suc p) (drop (suc p) s) refl (ap (λ (y : NumberRead). (raster_from s false m k y.next).number) (sym w) ∙ g.rest) in
     record {
       samples = rw (n, w) (Samples.raw (get_or s p 0) r.samples);
-      below = rw w (both (ap (λ (y : Number). leb y.value m) (sym w) ∙ g.fits) r.below);
+      below = rw w (both (ap (λ (y : NumberRead). leb y.value m) (sym w) ∙ g.fits) r.below);
     })
     (λ h. no g.is_there (ap there (raw_past s p (ltb-false p (length s) h)) ∙ le-ltb p p (omega arith)))
 samples_sound s true m (suc k) p l e z =
@@ -125,8 +125,8 @@ samples_sound s true m (suc k) p l e z =
     let y = plain_split s p l e in
     let w = y.found in
     let n = p + length y.g + length y.d in
-    let r = samples_sound s true m k n y.t y.rest (ap (λ (x : Number). (raster_from s true m k x.next).number) (sym w) ∙ g.rest) in
+    let r = samples_sound s true m k n y.t y.rest (ap (λ (x : NumberRead). (raster_from s true m k x.next).number) (sym w) ∙ g.rest) in
     record {
       samples = rw (y.is, w) (Samples.text y.g y.d y.white (plain_number s p l y g.is_there) y.stops r.samples);
-      below = rw w (both (ap (λ (x : Number). leb x.value m) (sym w) ∙ g.fits) r.below);
+      below = rw w (both (ap (λ (x : NumberRead). leb x.value m) (sym w) ∙ g.fits) r.below);
     }

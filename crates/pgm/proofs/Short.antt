@@ -4,18 +4,18 @@
 use mathlib.Core.Path.{◌≡◌, refl, sym, ap, ◌∙◌, subst}
 use mathlib.Core.Bool.{Bool, true, false, cond}
 use mathlib.Core.List.{List, [], ◌∷◌, ◌++◌, append_assoc}
-use Prim.Native.Nat.{ℕ, zero, suc, ◌+◌, ◌-◌, ◌≤◌, ◌<◌}
+use Prim.Native.Nat.{ℕ, zero, suc, ◌+◌, ◌≤◌, ◌<◌}
 use native.Mathlib.Omega.{arith}
 use lib.Dec.{ltb, leb}
-use lib.ListN.{length, get_or, drop, replicate, length-append, length-replicate, length-drop, drop_of_length-le}
+use lib.ListN.{length, get_or, drop, replicate, length-append, length-replicate, length-drop}
 use lib.Seq.{append_snoc, drop-cons}
-use borrow.Author.Tests.{lt-ltb, le-ltb, ltb-true, ltb-false, leb-false, le-leb}
-use Rattle.tally.proofs.Test.{by_test, no, and_1, and_2, both}
+use borrow.Author.Tests.{lt-ltb, le-ltb, ltb-true, ltb-false, le-leb}
+use Rattle.tally.proofs.Test.{by_test, and_1, and_2, both}
 use Rattle.form.specs.Reader.{is_digit}
-use Rattle.refuse.specs.declared.Verdict.{Verdict}
-use Rattle.pgm.specs.declared.Number.{Number}
+use Rattle.refuse.specs.Refusal.{Verdict}
+use Rattle.pgm.specs.Reader.{NumberRead}
 use Rattle.pgm.specs.Grammar.{is_white, all, is_number, value_from, value, Samples}
-use Rattle.pgm.specs.Reader.{there, white_from, white_end, number_from, number_at, plain_at, raw_at, sample_at, raster_from}
+use Rattle.pgm.specs.Reader.{there, white_from, white_end, number_from, number_at, plain_at, raw_at, raster_from}
 use Rattle.pgm.proofs.Rows.{raster_none, raster_24, raster_23, raster_more, raw_here, raw_past}
 use Rattle.pgm.proofs.Pieces.{shift, white_over, white_stops, number_over}
 use Rattle.pgm.proofs.Takes.{found_there, found_not, number_long}
@@ -94,7 +94,7 @@ plain_wrong s p g t b e a i d =
     ap (number_at s) q ∙ ap (number_from (p + length g) 0 (p + length g)) (shift s g (b ∷ t) p e) ∙ number_over (p + length g) 0 (p + length g) [] (b ∷ t) refl d
 
 gone_at : (s : List ℕ) (m k p a v : ℕ) → plain_at s p ≡ record { first = a; value = v; next = a + 0 } → raster_from s true m (suc k) p ≡ record { number = 24; place = a }
-gone_at s m k p a v e = raster_24 s true m k p (found_not (plain_at s p) a v e) ∙ ap (λ (n : Number). record { number = 24; place = n.first }) e
+gone_at s m k p a v e = raster_24 s true m k p (found_not (plain_at s p) a v e) ∙ ap (λ (n : NumberRead). record { number = 24; place = n.first }) e
 
 no_digits : (a : ℕ) (d : List ℕ) → a + length d ≤ a → d ≡ []
 no_digits a [] h = refl
@@ -154,8 +154,8 @@ raw_later s m k p l e h f place c =
           let j = head_of_lem s' p' d (c.x ++ (b ∷ t')) e' in
           let w = raw_here s' p' j.0 in
           let o : suc p' + length c.x ≡ p' + length (d ∷ c.x) = omega arith in
-          raster_more s' false m k p' (ap there w ∙ lt-ltb p' (suc p') (omega arith)) (ap (λ (v : Number). leb v.value m) w ∙ ap (λ (v : ℕ). leb v m) j.1 ∙ f)
-          ∙ ap (λ (v : Number). raster_from s' false m k v.next) w
+          raster_more s' false m k p' (ap there w ∙ lt-ltb p' (suc p') (omega arith)) (ap (λ (v : NumberRead). leb v.value m) w ∙ ap (λ (v : ℕ). leb v m) j.1 ∙ f)
+          ∙ ap (λ (v : NumberRead). raster_from s' false m k v.next) w
           ∙ c.never b t q s' (suc p') t' j.2
           ∙ ap (λ (v : ℕ). record { number = 24; place = v }) o;
     }
@@ -189,8 +189,8 @@ plain_later s m k p l r n f place c =
           let p2 = p' + length g + length d in
           let e3 = shift s' d (c.x ++ (b ∷ t')) (p' + length g) (shift s' g (d ++ (c.x ++ (b ∷ t'))) p' e2) in
           let o : p2 + length c.x ≡ p' + length (g ++ (d ++ c.x)) = omega (arith, length-append g (d ++ c.x), length-append d c.x) in
-          raster_more s' true m k p' (found_there (plain_at s' p') (p' + length g) (length d) (value d) (number_long d n) w) (ap (λ (v : Number). leb v.value m) w ∙ f)
-          ∙ ap (λ (v : Number). raster_from s' true m k v.next) w
+          raster_more s' true m k p' (found_there (plain_at s' p') (p' + length g) (length d) (value d) (number_long d n) w) (ap (λ (v : NumberRead). leb v.value m) w ∙ f)
+          ∙ ap (λ (v : NumberRead). raster_from s' true m k v.next) w
           ∙ c.never b t q s' p2 t' e3
           ∙ ap (λ (v : ℕ). record { number = 24; place = v }) o;
     }
@@ -211,13 +211,13 @@ samples_short s false m (suc k) p l e z =
     let t : there (raw_at s p) ≡ true = ap there w ∙ lt-ltb p (suc p) (omega arith) in
     by_test (leb (get_or s p 0) m)
     (λ f.
-    let q = raster_more s false m k p t (ap (λ (v : Number). leb v.value m) w ∙ f) ∙ ap (λ (v : Number). raster_from s false m k v.next) w in
+    let q = raster_more s false m k p t (ap (λ (v : NumberRead). leb v.value m) w ∙ f) ∙ ap (λ (v : NumberRead). raster_from s false m k v.next) w in
     raw_later s m k p l e b f (raster_from s false m (suc k) p).place (rw (ap (λ (v : Verdict). v.place) q) (samples_short s false m k (suc p) (drop (suc p) s) refl (told q z))))
-    (λ f. not_24 (raster_23 s false m k p t (ap (λ (v : Number). leb v.value m) w ∙ f)) (λ y. absurd (omega arith)) z))
+    (λ f. not_24 (raster_23 s false m k p t (ap (λ (v : NumberRead). leb v.value m) w ∙ f)) (λ y. absurd (omega arith)) z))
     (λ h.
     let b = ltb-false p (length s) h in
     let w = raw_past s p b in
-    let q = raster_24 s false m k p (ap there w ∙ le-ltb p p (omega arith)) ∙ ap (λ (v : Number). record { number = 24; place = v.first }) w in
+    let q = raster_24 s false m k p (ap there w ∙ le-ltb p p (omega arith)) ∙ ap (λ (v : NumberRead). record { number = 24; place = v.first }) w in
     rw (ap (λ (v : Verdict). v.place) q) (raw_short s m k p l e b))
 samples_short s true m (suc k) p l e z =
     let r = plain_split s p l e in
@@ -226,10 +226,10 @@ samples_short s true m (suc k) p l e z =
     (λ t.
     by_test (leb (value r.d) m)
     (λ f.
-    let q = raster_more s true m k p t (ap (λ (v : Number). leb v.value m) w ∙ f) ∙ ap (λ (v : Number). raster_from s true m k v.next) w in
+    let q = raster_more s true m k p t (ap (λ (v : NumberRead). leb v.value m) w ∙ f) ∙ ap (λ (v : NumberRead). raster_from s true m k v.next) w in
     plain_later s m k p l r (plain_number s p l r t) f (raster_from s true m (suc k) p).place
     (rw (ap (λ (v : Verdict). v.place) q) (samples_short s true m k (p + length r.g + length r.d) r.t r.rest (told q z))))
-    (λ f. not_24 (raster_23 s true m k p t (ap (λ (v : Number). leb v.value m) w ∙ f)) (λ y. absurd (omega arith)) z))
+    (λ f. not_24 (raster_23 s true m k p t (ap (λ (v : NumberRead). leb v.value m) w ∙ f)) (λ y. absurd (omega arith)) z))
     (λ t.
-    let q = raster_24 s true m k p t ∙ ap (λ (v : Number). record { number = 24; place = v.first }) w in
+    let q = raster_24 s true m k p t ∙ ap (λ (v : NumberRead). record { number = 24; place = v.first }) w in
     rw (ap (λ (v : Verdict). v.place) q) (plain_short s m k p l r t))

@@ -9,14 +9,14 @@ use native.Mathlib.Omega.{arith}
 use lib.Dec.{eqb, ltb, leb}
 use lib.ListN.{length, get_or, drop, take, length-append}
 use lib.Seq.{drop-cons}
-use borrow.Author.Tests.{lt-ltb, le-ltb, ltb-true, ltb-false, leb-false}
+use borrow.Author.Tests.{le-ltb, ltb-true, ltb-false, leb-false}
 use Rattle.tally.proofs.Test.{by_test, no}
 use Rattle.form.specs.Reader.{is_digit}
-use Rattle.refuse.specs.declared.Verdict.{Verdict}
-use Rattle.pgm.specs.declared.Head.{Head}
-use Rattle.pgm.specs.declared.Number.{Number}
+use Rattle.refuse.specs.Refusal.{Verdict}
+use Rattle.pgm.specs.Reader.{HeadRead}
+use Rattle.pgm.specs.Reader.{NumberRead}
 use Rattle.pgm.specs.Grammar.{is_number, value, letter, Pgm}
-use Rattle.pgm.specs.Reader.{there, head_of, raw_at, plain_at, sample_at, raster_from}
+use Rattle.pgm.specs.Reader.{there, head_of, sample_at, raster_from}
 use Rattle.pgm.specs.Call.{pgm_raster}
 use Rattle.pgm.proofs.Rows.{raster_none, raster_24, raster_23, raster_more, raw_here, raw_past}
 use Rattle.pgm.proofs.Pieces.{shift}
@@ -28,7 +28,7 @@ use Rattle.pgm.proofs.Short.{Short, samples_short}
 
 -- ---- no header, no file
 pub no_file : {plain : Bool} {w h m : ℕ} {px : List ℕ} (s : List ℕ) → (head_of s).ok ≡ false → Pgm plain w h m px s → ⊥
-no_file s o r = no (ap (λ (z : Head). z.ok) (pgm_shown r).head) o
+no_file s o r = no (ap (λ (z : HeadRead). z.ok) (pgm_shown r).head) o
 
 -- ---- 24
 pub record RanOut (s : List ℕ) (p : ℕ) : Type 0 where
@@ -81,7 +81,7 @@ short_file s r o p c =
         let g : head_of f ≡ head_of s = head_again s r o u in
         let y = pgm_shown (subst (λ (z : List ℕ). Pgm plain w' h' m' qx z) v k) in
         let w : (pgm_raster f (head_of f)).number ≡ 24 =
-        ap (λ (z : Head). (pgm_raster f z).number) g
+        ap (λ (z : HeadRead). (pgm_raster f z).number) g
         ∙ ap (λ (z : Verdict). z.number) (c.never d t (sym q) f (head_of s).at rest (ap (λ (z : ℕ). drop z f) r.at ∙ after_head f 80 b r.white r.fields u refl)) in
         let l : ◌≡◌ {A = ℕ} 24 0 = sym w ∙ ap (λ (z : Verdict). z.number) y.fine in
         omega arith
@@ -128,10 +128,10 @@ above_here s false m k p t f =
     record {
       d = get_or s p 0 ∷ [];
       t = drop (suc p) s;
-      is = ap (λ (z : Number). drop z.first s) w ∙ drop-cons s p 0 b;
+      is = ap (λ (z : NumberRead). drop z.first s) w ∙ drop-cons s p 0 b;
       one = refl;
       stops = λ z. no z refl;
-      large = leb-false (get_or s p 0) m (ap (λ (z : Number). leb z.value m) (sym w) ∙ f);
+      large = leb-false (get_or s p 0) m (ap (λ (z : NumberRead). leb z.value m) (sym w) ∙ f);
       j = 0;
       before = omega arith;
       fine = ap (λ (z : Verdict). z.number) (raster_none s false m p);
@@ -143,10 +143,10 @@ above_here s true m k p t f =
     record {
       d = r.d;
       t = r.t;
-      is = ap (λ (z : Number). drop z.first s) w ∙ shift s r.g (r.d ++ r.t) p r.is;
+      is = ap (λ (z : NumberRead). drop z.first s) w ∙ shift s r.g (r.d ++ r.t) p r.is;
       one = plain_number s p (drop p s) r t;
       stops = λ z. r.stops;
-      large = leb-false (value r.d) m (ap (λ (z : Number). leb z.value m) (sym w) ∙ f);
+      large = leb-false (value r.d) m (ap (λ (z : NumberRead). leb z.value m) (sym w) ∙ f);
       j = 0;
       before = omega arith;
       fine = ap (λ (z : Verdict). z.number) (raster_none s true m p);

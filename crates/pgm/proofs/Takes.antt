@@ -11,7 +11,7 @@ use lib.ListN.{length, get_or, drop, length-append}
 use borrow.Author.Tests.{lt-ltb, le-ltb, ltb-true}
 use Rattle.tally.proofs.Test.{by_test, no, and_1, and_2, both}
 use Rattle.form.specs.Reader.{is_digit}
-use Rattle.pgm.specs.declared.Number.{Number}
+use Rattle.pgm.specs.Reader.{NumberRead}
 use Rattle.pgm.specs.Grammar.{in_gap, opened, gap, all, is_number, value, Fields}
 use Rattle.pgm.specs.Reader.{Three, there, gap_from, gap_end, number_from, number_at, field_at, fields_from}
 use Rattle.pgm.proofs.Bytes.{digit_no_gap, gap_no_digit}
@@ -49,10 +49,10 @@ field_complete s p g d t e a n f =
     ap (number_at s) q ∙ ap (number_from (p + length g) 0 (p + length g)) (shift s g (d ++ t) p e) ∙ number_over (p + length g) 0 (p + length g) d t (number_digits d n) f
 
 -- it is there
-pub found_there : (n : Number) (a b v : ℕ) → 0 < b → n ≡ record { first = a; value = v; next = a + b } → there n ≡ true
+pub found_there : (n : NumberRead) (a b v : ℕ) → 0 < b → n ≡ record { first = a; value = v; next = a + b } → there n ≡ true
 found_there n a b v h e = ap there e ∙ lt-ltb a (a + b) (omega arith)
 
-pub found_not : (n : Number) (a v : ℕ) → n ≡ record { first = a; value = v; next = a + 0 } → there n ≡ false
+pub found_not : (n : NumberRead) (a v : ℕ) → n ≡ record { first = a; value = v; next = a + 0 } → there n ≡ false
 found_not n a v e = ap there e ∙ le-ltb a (a + 0) (omega arith)
 
 -- ---- the numbers of the header
@@ -76,7 +76,7 @@ fields_complete s u was f p (Fields.more {vs} {t} g d a h n r) e i =
       first = c.first;
       is =
           field_next s (length vs) was f p (found_there (field_at s p) (p + m) k (value d) (number_long d n) q)
-          ∙ ap (λ (z : Number). fields_from s (length vs) (was ++ (z.value ∷ [])) z.first z.next) q
+          ∙ ap (λ (z : NumberRead). fields_from s (length vs) (was ++ (z.value ∷ [])) z.first z.next) q
           ∙ c.is
           ∙ (λ z. record { ok = true; values = append_assoc was (value d ∷ []) vs z; first = c.first; next = w z });
     }
@@ -169,7 +169,7 @@ fields_sound s (suc k) was f p l e i o =
     (λ h.
     let r = field_split s p l e in
     let y = full s p l r h i in
-    let q = field_next s k was f p h ∙ ap (λ (z : Number). fields_from s k (was ++ (z.value ∷ [])) z.first z.next) r.found in
+    let q = field_next s k was f p h ∙ ap (λ (z : NumberRead). fields_from s k (was ++ (z.value ∷ [])) z.first z.next) r.found in
     let c = fields_sound s k (was ++ (value r.d ∷ [])) (p + length r.g) (p + length r.g + length r.d) r.t r.rest r.stops (ap (λ (z : Three). z.ok) (sym q) ∙ o) in
     record {
       ws = value r.d ∷ c.ws;

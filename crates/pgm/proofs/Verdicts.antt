@@ -1,8 +1,9 @@
 -- The refusals of the call, row by row, and what a call that is not refused may rely on. Assumes nothing.
--- Definitions: `Read` what the code holds of the header; `Passed` none of the rows is given.
--- Main laws: `passed` a call that is done has passed every row; `row_22`, `row_1`, `row_9`, `rows_raster` the verdict as the code finds it; `kept-sides` fitting sides are kept as they are; `refused_grey`, `done_grey` the answer.
+-- Definitions: `Passed` none of the rows is given.
+-- Main laws: `passed` a call that is done has passed every row; `head_given` what a header that is told says of the one read; `given_1`, `given_9`, `given_raster` the verdict as the code finds it; `code_sides` fitting sides fit as they are kept;
+--   `code_fine` then the samples are as the call's; `done_grey`, `done_room` the answer and the room.
 use mathlib.Core.Path.{◌≡◌, refl, sym, ap, ◌∙◌}
-use mathlib.Core.Bool.{Bool, true, false, not, ◌&&◌}
+use mathlib.Core.Bool.{Bool, true, not, ◌&&◌}
 use mathlib.Core.List.{List, [], ◌∷◌, ◌++◌}
 use Prim.Native.Nat.{ℕ, ◌*◌, ◌≤◌}
 use native.Mathlib.Omega.{arith}
@@ -11,15 +12,16 @@ use lib.ListN.{length, drop}
 use borrow.Author.Tests.{ltb-false, leb-true, leb-false, not-false}
 use Rattle.tally.proofs.Test.{by_test}
 use Rattle.matte.specs.Picture.{side_fits}
-use Rattle.refuse.specs.declared.Verdict.{Verdict}
-use Rattle.refuse.specs.declared.Answer.{Answer}
+use Rattle.refuse.specs.Refusal.{Verdict}
 use Rattle.refuse.specs.Refusal.{Row, row, row_at, verdict, answer, afterwards, sides_row}
 use Rattle.refuse.specs.Shape.{Sides}
-use Rattle.refuse.proofs.Rows.{stopped, gone_on, parted, clean, done_answer, refused_answer, done_after, refused_after}
+use Rattle.refuse.proofs.Rows.{stopped, gone_on, parted, clean, done_answer, done_after}
 use Rattle.refuse.proofs.Sides.{sized}
+use Rattle.std.specs.Prelude.{Ok, Err}
 use Rattle.pgm.specs.declared.Head.{Head}
+use Rattle.pgm.specs.Reader.{HeadRead, head_told}
 use Rattle.pgm.specs.declared.Grey.{Grey}
-use Rattle.pgm.specs.Reader.{head_of, raster_from, samples_from, cap, capped_head}
+use Rattle.pgm.specs.Reader.{head_of, raster_from, cap, capped_head}
 use Rattle.pgm.specs.Call.{pgm_raster, pgm_samples, pgm_verdict, pgm_answer, pgm_room}
 use Rattle.pgm.proofs.Cap.{cap_small, cap_large, cap_side}
 use Rattle.pgm.proofs.Rows.{raster_rows}
@@ -65,26 +67,30 @@ passed s places z =
 cap_back : (v : ℕ) → cap v ≤ 2048 → cap v ≡ v
 cap_back v h = by_test (leb v 65535) (λ t. cap_small v (leb-true v 65535 t)) (λ t. absurd (omega (arith, cap_large v (leb-false v 65535 t))))
 
-module _ (s : List ℕ) (places : ℕ) (h : Head) (q : h ≡ capped_head (head_of s)) where
-  pub row_22 : (v : Verdict) → v ≡ verdict (row_at 22 (not h.ok) h.at ∷ []) → v ≡ verdict (head_row s places)
-  row_22 v e = e ∙ ap (λ (z : Head). verdict (row_at 22 (not z.ok) z.at ∷ [])) q
+-- a header that is told, and none
+pub head_given : (h : Head) (r : HeadRead) → Ok h ≡ head_told r → record { ok = true; plain = h.plain; width = h.width; height = h.height; maximum = h.maximum; at = h.at } ≡ r
+head_given h r e =
+    by_test r.ok
+    (λ t.
+    let q : Ok h ≡ Ok (record { plain = r.plain; width = r.width; height = r.height; maximum = r.maximum; at = r.at }) = rw t at e in
+    let z : h ≡ record { plain = r.plain; width = r.width; height = r.height; maximum = r.maximum; at = r.at } = cc in
+    λ i. record { ok = sym t i; plain = (z i).plain; width = (z i).width; height = (z i).height; maximum = (z i).maximum; at = (z i).at })
+    (λ t. let q : Ok h ≡ Err r.at = rw t at e in absurd cc)
 
-  pub is_ok_lem : (v : Verdict) → v ≡ verdict (row_at 22 (not h.ok) h.at ∷ []) → v.number ≡ 0 → h.ok ≡ true
-  is_ok_lem v e z = not-false _ (clean (row_at 22 (not h.ok) h.at) [] (λ y. omega arith) (ap (λ (x : Verdict). x.number) (sym e) ∙ z)).0
-
+module _ (s : List ℕ) (places : ℕ) (h : HeadRead) (q : h ≡ capped_head (head_of s)) where
   -- sides as they are kept fit exactly if they fit
   pub row_1 : (v : Verdict) → v ≡ verdict (sides_row h.width h.height ∷ []) → v ≡ verdict (sides_row_lem s places)
   row_1 v e =
-      e ∙ ap (λ (z : Head). verdict (sides_row z.width z.height ∷ [])) q
+      e ∙ ap (λ (z : HeadRead). verdict (sides_row z.width z.height ∷ [])) q
       ∙ ap (λ (z : Bool). verdict (row 1 (not (z && side_fits (cap (head_of s).height))) ∷ [])) (cap_side (head_of s).width)
       ∙ ap (λ (z : Bool). verdict (row 1 (not (side_fits (head_of s).width && z)) ∷ [])) (cap_side (head_of s).height)
 
   module _ (S : Sides h.width h.height) where
     pub kept_width : h.width ≡ (head_of s).width
-    kept_width = ap (λ (z : Head). z.width) q ∙ cap_back (head_of s).width (omega (arith, S.w_most, ap (λ (z : Head). z.width) q))
+    kept_width = ap (λ (z : HeadRead). z.width) q ∙ cap_back (head_of s).width (omega (arith, S.w_most, ap (λ (z : HeadRead). z.width) q))
 
     pub kept_height : h.height ≡ (head_of s).height
-    kept_height = ap (λ (z : Head). z.height) q ∙ cap_back (head_of s).height (omega (arith, S.h_most, ap (λ (z : Head). z.height) q))
+    kept_height = ap (λ (z : HeadRead). z.height) q ∙ cap_back (head_of s).height (omega (arith, S.h_most, ap (λ (z : HeadRead). z.height) q))
 
     pub kept_area : (n : ℕ) → n ≡ h.width * h.height → n ≡ (head_of s).width * (head_of s).height
     kept_area n e = e ∙ ap (λ (z : ℕ). z * h.height) kept_width ∙ ap (λ (z : ℕ). (head_of s).width * z) kept_height
@@ -95,44 +101,56 @@ module _ (s : List ℕ) (places : ℕ) (h : Head) (q : h ≡ capped_head (head_o
     pub rows_raster : (n : ℕ) (v : Verdict) → n ≡ h.width * h.height → v ≡ raster_from s h.plain h.maximum n h.at → v ≡ verdict (raster_row s places)
     rows_raster n v e f =
         let d = head_of s in
-        f ∙ ap (λ (z : Head). raster_from s z.plain z.maximum n z.at) q ∙ ap (λ (z : ℕ). raster_from s d.plain d.maximum z d.at) (kept_area n e)
+        f ∙ ap (λ (z : HeadRead). raster_from s z.plain z.maximum n z.at) q ∙ ap (λ (z : ℕ). raster_from s d.plain d.maximum z d.at) (kept_area n e)
         ∙ raster_rows s d.plain d.maximum (d.width * d.height) d.at
 
     pub code_fine : (n : ℕ) → n ≡ h.width * h.height → (raster_from s h.plain h.maximum n h.at).number ≡ (pgm_raster s (head_of s)).number
     code_fine n e =
         let d = head_of s in
-        ap (λ (z : Head). (raster_from s z.plain z.maximum n z.at).number) q ∙ ap (λ (z : ℕ). (raster_from s d.plain d.maximum z d.at).number) (kept_area n e)
+        ap (λ (z : HeadRead). (raster_from s z.plain z.maximum n z.at).number) q ∙ ap (λ (z : ℕ). (raster_from s d.plain d.maximum z d.at).number) (kept_area n e)
 
-    pub code_samples : (n : ℕ) → n ≡ h.width * h.height → (room : List ℕ)
-        → samples_from s h.plain n h.at ++ drop n room ≡ pgm_samples s (head_of s) ++ drop ((head_of s).width * (head_of s).height) room
-    code_samples n e room =
-        let d = head_of s in
-        ap (λ (z : Head). samples_from s z.plain n z.at ++ drop n room) q ∙ ap (λ (z : ℕ). samples_from s d.plain z d.at ++ drop z room) (kept_area n e)
+-- ---- the first of these that is given, for a header that is told
+module _ (s : List ℕ) (places : ℕ) (h : Head) (e : Ok h ≡ head_told (capped_head (head_of s))) where
+  abbrev h' : HeadRead
+  h' = record { ok = true; plain = h.plain; width = h.width; height = h.height; maximum = h.maximum; at = h.at }
+
+  q' : h' ≡ capped_head (head_of s)
+  q' = head_given h (capped_head (head_of s)) e
+
+  no_22 : verdict (head_row s places) ≡ record { number = 0; place = 0 }
+  no_22 = rw (← ap (λ (z : HeadRead). z.ok) q')
+
+  module _ (v : Verdict) (ev : v ≡ verdict (sides_row h.width h.height ∷ [])) where
+    upto_1 : v ≡ verdict (head_row s places ++ sides_row_lem s places)
+    upto_1 = gone_on (head_row s places) (sides_row_lem s places) _ v refl refl (ap (λ (z : Verdict). z.number) no_22) (row_1 s places h' q' v ev)
+
+    pub given_1 : (v.number ≡ 0 → ⊥) → v ≡ verdict (all_rows s places)
+    given_1 n = stopped (head_row s places ++ sides_row_lem s places) (room_row_lem s places ++ raster_row s places) v upto_1 n
+
+    module _ (z : v.number ≡ 0) (n : ℕ) (en : n ≡ h.width * h.height) (u : Verdict) (eu : u ≡ verdict (row 9 (ltb places n) ∷ [])) where
+      S : Sides h.width h.height
+      S = sized h.width h.height (ap (λ (x : Verdict). x.number) (sym ev) ∙ z)
+
+      upto_9 : u ≡ verdict ((head_row s places ++ sides_row_lem s places) ++ room_row_lem s places)
+      upto_9 = gone_on (head_row s places ++ sides_row_lem s places) (room_row_lem s places) v u refl upto_1 z (row_9 s places h' q' S n u en eu)
+
+      pub given_9 : (u.number ≡ 0 → ⊥) → u ≡ verdict (all_rows s places)
+      given_9 k = stopped ((head_row s places ++ sides_row_lem s places) ++ room_row_lem s places) (raster_row s places) u upto_9 k
+
+      pub given_raster : u.number ≡ 0 → (x : Verdict) → x ≡ raster_from s h.plain h.maximum n h.at → x ≡ verdict (all_rows s places)
+      given_raster k x ex = gone_on ((head_row s places ++ sides_row_lem s places) ++ room_row_lem s places) (raster_row s places) u x refl upto_9 k (rows_raster s places h' q' S n x en ex)
 
 -- sides that fit are kept as they are, so they fit as they are kept
-pub code_sides : (s : List ℕ) (h : Head) → h ≡ capped_head (head_of s) → Sides (head_of s).width (head_of s).height → Sides h.width h.height
+pub code_sides : (s : List ℕ) (h : HeadRead) → h ≡ capped_head (head_of s) → Sides (head_of s).width (head_of s).height → Sides h.width h.height
 code_sides s h q S =
-    let a : h.width ≡ (head_of s).width = ap (λ (z : Head). z.width) q ∙ cap_small (head_of s).width (omega (arith, S.w_most)) in
-    let b : h.height ≡ (head_of s).height = ap (λ (z : Head). z.height) q ∙ cap_small (head_of s).height (omega (arith, S.h_most)) in
+    let a : h.width ≡ (head_of s).width = ap (λ (z : HeadRead). z.width) q ∙ cap_small (head_of s).width (omega (arith, S.w_most)) in
+    let b : h.height ≡ (head_of s).height = ap (λ (z : HeadRead). z.height) q ∙ cap_small (head_of s).height (omega (arith, S.h_most)) in
     record { w_least = omega (arith, S.w_least); w_most = omega (arith, S.w_most); h_least = omega (arith, S.h_least); h_most = omega (arith, S.h_most) }
 
 -- ---- the answer
 module _ (s room : List ℕ) (v : Verdict) (e : v ≡ pgm_verdict s room) where
   pub passed_by : v.number ≡ 0 → Passed s (length room)
   passed_by z = passed s (length room) (ap (λ (z : Verdict). z.number) (sym e) ∙ z)
-
-  unrefused : (v.number ≡ 0 → ⊥) → (pgm_verdict s room).number ≡ 0 → ⊥
-  unrefused n z = n (ap (λ (x : Verdict). x.number) e ∙ z)
-
-  pub refused_grey : (v.number ≡ 0 → ⊥) → ◌≡◌ {A = Grey} (record { answer = record { number = v.number; place = v.place; words = 0; lines = 0 }; width = 0; height = 0; maximum = 0 }) (pgm_answer s room)
-  refused_grey n =
-      let h = head_of s in
-      let p = sym (refused_answer v 0 0 n) ∙ ap (λ (z : Verdict). answer z 0 0) e in
-      let k : (a : ℕ) → 0 ≡ afterwards (pgm_verdict s room) 0 a = λ a. sym (refused_after (pgm_verdict s room) 0 a (unrefused n)) in
-      λ i. record { answer = p i; width = k h.width i; height = k h.height i; maximum = k h.maximum i }
-
-  pub refused_room : (v.number ≡ 0 → ⊥) → room ≡ pgm_room s room
-  refused_room n = sym (refused_after (pgm_verdict s room) room _ (unrefused n))
 
   module _ (z : v.number ≡ 0) where
     zero : (pgm_verdict s room).number ≡ 0

@@ -2,7 +2,7 @@
 -- Definitions: `Shown` what a file of the grammar is read as.
 -- Main laws: `after_head` what stands after the header; `head_again` the header is the same before other bytes; `pgm_shown` a file of the grammar is read; `shown_pgm` what is read is a file of the grammar; `pgm_done`, `done_pgm` the same of the call.
 use mathlib.Core.Path.{◌≡◌, refl, sym, ap, ◌∙◌}
-use mathlib.Core.Bool.{Bool, true, false, not, ◌&&◌}
+use mathlib.Core.Bool.{Bool, true, not, ◌&&◌}
 use mathlib.Core.List.{List, [], ◌∷◌, ◌++◌}
 use Prim.Native.Nat.{ℕ, suc, ◌+◌, ◌*◌, ◌≤◌}
 use native.Mathlib.Omega.{arith}
@@ -10,16 +10,15 @@ use lib.Dec.{eqb, ltb}
 use lib.ListN.{length, drop}
 use borrow.Author.Tests.{le-ltb}
 use Rattle.matte.specs.Picture.{side_fits}
-use Rattle.refuse.specs.declared.Verdict.{Verdict}
+use Rattle.refuse.specs.Refusal.{Verdict}
 use Rattle.refuse.specs.Refusal.{row, row_at, sides_row}
 use Rattle.refuse.specs.Shape.{Sides}
 use Rattle.refuse.proofs.Rows as rows
 use Rattle.refuse.proofs.Sides.{in_sides}
-use Rattle.pgm.specs.declared.Head.{Head}
-use Rattle.pgm.specs.declared.Grey.{Grey}
+use Rattle.pgm.specs.Reader.{HeadRead}
 use Rattle.pgm.specs.Grammar.{letter, Pgm}
 use Rattle.pgm.specs.Reader.{head_of, raster_from, samples_from}
-use Rattle.pgm.specs.Call.{pgm_raster, pgm_samples, pgm_rows, pgm_verdict, pgm_answer, pgm_room}
+use Rattle.pgm.specs.Call.{pgm_raster, pgm_samples, pgm_verdict, pgm_answer, pgm_room}
 use Rattle.pgm.proofs.Rows.{done, samples_length}
 use Rattle.pgm.proofs.Pieces.{shift}
 use Rattle.pgm.proofs.Sampled.{samples_complete, samples_sound, head_of_lem}
@@ -94,9 +93,9 @@ module _ {plain : Bool} {w h m : ℕ} {px s : List ℕ} (r : Pgm plain w h m px 
       let r9 = row 9 (ltb (length room) (d.width * d.height)) in
       let r23 = row_at 23 (eqb f.number 23) f.place in
       let r24 = row_at 24 (eqb f.number 24) f.place in
-      rows.passed (row_at 22 (not d.ok) d.at) (sides_row d.width d.height ∷ r9 ∷ r23 ∷ r24 ∷ []) (ap (λ (y : Head). not y.ok) q)
-      ∙ rows.fit 1 (side_fits d.width && side_fits d.height) (r9 ∷ r23 ∷ r24 ∷ []) (ap (λ (y : Head). side_fits y.width && side_fits y.height) q ∙ in_sides w h S)
-      ∙ rows.passed r9 (r23 ∷ r24 ∷ []) (ap (λ (y : Head). ltb (length room) (y.width * y.height)) q ∙ le-ltb (length room) (w * h) k)
+      rows.passed (row_at 22 (not d.ok) d.at) (sides_row d.width d.height ∷ r9 ∷ r23 ∷ r24 ∷ []) (ap (λ (y : HeadRead). not y.ok) q)
+      ∙ rows.fit 1 (side_fits d.width && side_fits d.height) (r9 ∷ r23 ∷ r24 ∷ []) (ap (λ (y : HeadRead). side_fits y.width && side_fits y.height) q ∙ in_sides w h S)
+      ∙ rows.passed r9 (r23 ∷ r24 ∷ []) (ap (λ (y : HeadRead). ltb (length room) (y.width * y.height)) q ∙ le-ltb (length room) (w * h) k)
       ∙ rows.passed r23 (r24 ∷ []) (ap (λ (y : Verdict). eqb y.number 23) c.fine)
       ∙ rows.passed r24 [] (ap (λ (y : Verdict). eqb y.number 24) c.fine)
 
@@ -105,7 +104,7 @@ module _ {plain : Bool} {w h m : ℕ} {px s : List ℕ} (r : Pgm plain w h m px 
       let c = pgm_shown r in
       let q = c.head in
       let e = sym none_given in (
-        sym (done_grey s room done e refl w h m (ap (λ (y : Head). y.width) (sym q)) (ap (λ (y : Head). y.height) (sym q)) (ap (λ (y : Head). y.maximum) (sym q))),
+        sym (done_grey s room done e refl w h m (ap (λ (y : HeadRead). y.width) (sym q)) (ap (λ (y : HeadRead). y.height) (sym q)) (ap (λ (y : HeadRead). y.maximum) (sym q))),
         sym (done_room s room done e refl (px ++ drop (w * h) room) (px ++ drop (w * h) room) refl
-            (ap (λ (y : List ℕ). y ++ drop (w * h) room) (sym c.list) ∙ ap (λ (y : Head). pgm_samples s (head_of s) ++ drop (y.width * y.height) room) (sym q))),
+            (ap (λ (y : List ℕ). y ++ drop (w * h) room) (sym c.list) ∙ ap (λ (y : HeadRead). pgm_samples s (head_of s) ++ drop (y.width * y.height) room) (sym q))),
       )

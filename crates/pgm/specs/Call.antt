@@ -1,17 +1,16 @@
 -- The reading call for PGM files: its refusals, its answer, the room afterwards. Assumes nothing.
 -- Definitions: `pgm_raster`, `pgm_samples` what stands after the header; `pgm_rows`, `pgm_verdict`, `pgm_answer`, `pgm_room`, `PgmCall` the call.
 use Rattle.std.specs.Prelude.{◌≡◌, not, List, [], ◌∷◌, ◌++◌, ℕ, ◌*◌, eqb, drop}
-use Rattle.refuse.specs.declared.Verdict.{Verdict}
+use Rattle.refuse.specs.Refusal.{Verdict}
 use Rattle.refuse.specs.Refusal.{Row, row_at, verdict, answer, afterwards, sides_row, room_row}
-use Rattle.pgm.specs.declared.Head.{Head}
 use Rattle.pgm.specs.declared.Grey.{Grey}
-use Rattle.pgm.specs.Reader.{head_of, raster_from, samples_from}
+use Rattle.pgm.specs.Reader.{HeadRead, head_of, raster_from, samples_from}
 
 -- the header's w·h samples, from the byte after it on (02, R-6)
-abbrev pub pgm_raster : List ℕ → Head → Verdict
+abbrev pub pgm_raster : List ℕ → HeadRead → Verdict
 pgm_raster s h = raster_from s h.plain h.maximum (h.width * h.height) h.at
 
-abbrev pub pgm_samples : List ℕ → Head → List ℕ
+abbrev pub pgm_samples : List ℕ → HeadRead → List ℕ
 pgm_samples s h = samples_from s h.plain (h.width * h.height) h.at
 
 module _ (s room : List ℕ) where

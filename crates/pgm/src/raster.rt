@@ -1,178 +1,164 @@
 // The samples after the header: what is refused of them, and writing them.
-ghost use Rattle.std.specs.Prelude.{◌≡◌, true, false, ◌++◌, ℕ, ◌+◌, ◌≤◌, leb, length, get_or, drop};
+ghost use Rattle.std.specs.Prelude.{◌≡◌, true, false, ◌++◌, ℕ, ◌+◌, ◌≤◌, leb, length, get_or, drop, IfOk};
 ghost use Rattle.tally.specs.Tally.{every};
-ghost use Rattle.pgm.specs.Reader.{white_end, plain_at, capped, raster_from, samples_from};
+ghost use Rattle.refuse.specs.Told.{verdict_of};
+ghost use Rattle.pgm.specs.Reader.{white_end, plain_at, capped, number_told, raster_from, samples_from};
 
 use crate::Number;
+use crate::cursor::Cursor;
 use crate::scan::{is_white, number_at};
-use refuse::Verdict;
+use refuse::{Reason, Refusal};
 
-// The byte after the white space that begins at p.
-fn white_end(s: &[u8], p: usize) -> usize
-    requires { p ≤ length s.now }
-    ensures { (result ≡ white_end s.now p) × (result ≤ length s.now) }
+// The samples of a file: where they begin, how many there are, the most that one may be, and whether they are written in digits (P2) or as bytes (P5).
+#[derive(Clone, Copy)]
+pub struct Raster<'a> {
+    pub from: Cursor<'a>,
+    pub count: usize,
+    pub maximum: u8,
+    pub plain: bool,
+}
+
+// The end of the white space that begins here.
+fn white_end<'a>(c: Cursor<'a>) -> Cursor<'a>
+    ensures { (result.at ≡ white_end c.entry.bytes.now c.entry.at) × (result.bytes.now ≡ c.entry.bytes.now) }
 {
-    let mut i = p;
-    while i < s.len() {
-        if !is_white(s[i]) {
-            return i;
+    let bytes = c.bytes;
+    for at in c.at..bytes.len() {
+        if !is_white(bytes[at]) {
+            return Cursor { bytes, at };
         }
-        i += 1;
     }
-    i
+    Cursor {
+        bytes,
+        at: bytes.len(),
+    }
 }
 
-// P2: the sample after the white space that begins at p.
-fn plain_at(s: &[u8], p: usize) -> Number
-    requires { p ≤ length s.now }
-    ensures { (result ≡ capped (plain_at s.now p)) × (result.first ≤ result.next) × (result.next ≤ length s.now) }
+// P2: the sample after the white space that begins here.
+fn plain_at(c: Cursor<'_>) -> Result<Number, usize>
+    ensures { (result ≡ number_told (capped (plain_at c.entry.bytes.now c.entry.at))) × IfOk result (λ n. n.next ≤ length c.entry.bytes.now) }
 {
-    let q = white_end(s, p);
-    number_at(s, q)
+    number_at(white_end(c))
 }
 
-// The n bytes from p on are all at most m, as bytes are for 255.
-fn all_fit(s: &[u8], p: usize, n: usize, m: u8) -> bool
-    requires { p + n ≤ length s.now }
-    ensures { result ≡ every (λ j. leb (get_or s.now (p + j) 0) m) n }
+// The bytes are all at most m, as bytes are for 255.
+fn all_fit(s: &[u8], m: u8) -> bool
+    ensures { result ≡ every (λ j. leb (get_or s.now j 0) m) (length s.now) }
 {
-    if m == 255 {
-        if n == 0 {
-            return true;
-        }
-        return s[p] <= m;
+    if m == u8::MAX {
+        return true;
     }
     let mut fit = true;
-    let mut j = 0;
-    while j < n {
-        fit = fit & (s[p + j] <= m);
-        j += 1;
+    for b in s {
+        fit &= *b <= m;
     }
     fit
 }
 
-// P5: what is refused of the n samples from p on, looked at one by one.
-fn raw_stop(s: &[u8], m: u8, n: usize, p: usize) -> Verdict
-    requires { p ≤ length s.now }
-    ensures { result ≡ raster_from s.now false m n p }
+// P5: what is refused of the samples, looked at one by one.
+fn raw_stop(r: Raster<'_>) -> Result<(), Refusal>
+    ensures { verdict_of result ≡ raster_from r.entry.from.bytes.now false r.entry.maximum r.entry.count r.entry.from.at }
 {
-    let mut i = p;
-    let mut left = n;
-    while 0 < left {
-        if s.len() <= i {
-            return Verdict {
-                number: 24,
+    let Cursor { bytes, at } = r.from;
+    let there = r.count.min(bytes.len() - at);
+    for i in at..at + there {
+        if r.maximum < bytes[i] {
+            return Err(Refusal {
+                reason: Reason::AboveMaximum,
                 place: i,
-            };
+            });
         }
-        if m < s[i] {
-            return Verdict {
-                number: 23,
-                place: i,
-            };
+    }
+    if there < r.count {
+        return Err(Refusal {
+            reason: Reason::NoSample,
+            place: bytes.len(),
+        });
+    }
+    Ok(())
+}
+
+// P5: what is refused of the samples; where nothing is, found many bytes at a time.
+fn raw_verdict(r: Raster<'_>) -> Result<(), Refusal>
+    ensures { verdict_of result ≡ raster_from r.entry.from.bytes.now false r.entry.maximum r.entry.count r.entry.from.at }
+{
+    let Cursor { bytes, at } = r.from;
+    if bytes.len() - at < r.count || !all_fit(&bytes[at..at + r.count], r.maximum) {
+        return raw_stop(r);
+    }
+    Ok(())
+}
+
+// P2: what is refused of the samples.
+fn plain_verdict(r: Raster<'_>) -> Result<(), Refusal>
+    ensures { verdict_of result ≡ raster_from r.entry.from.bytes.now true r.entry.maximum r.entry.count r.entry.from.at }
+{
+    let bytes = r.from.bytes;
+    let mut at = r.from.at;
+    for _done in 0..r.count {
+        let sample = match plain_at(Cursor { bytes, at }) {
+            Ok(sample) => sample,
+            Err(place) => {
+                return Err(Refusal {
+                    reason: Reason::NoSample,
+                    place,
+                });
+            }
+        };
+        if usize::from(r.maximum) < sample.value {
+            return Err(Refusal {
+                reason: Reason::AboveMaximum,
+                place: sample.first,
+            });
         }
-        i += 1;
-        left -= 1;
+        at = sample.next;
     }
-    Verdict {
-        number: 0,
-        place: 0,
-    }
+    Ok(())
 }
 
-// P5: what is refused of the n samples from p on; where nothing is, found many bytes at a time.
-fn raw_verdict(s: &[u8], m: u8, n: usize, p: usize) -> Verdict
-    requires { p ≤ length s.now }
-    ensures { result ≡ raster_from s.now false m n p }
+// What is refused of the samples.
+pub fn raster_verdict(r: Raster<'_>) -> Result<(), Refusal>
+    ensures { verdict_of result ≡ raster_from r.entry.from.bytes.now r.entry.plain r.entry.maximum r.entry.count r.entry.from.at }
 {
-    if s.len() - p < n {
-        return raw_stop(s, m, n, p);
-    }
-    if !all_fit(s, p, n, m) {
-        return raw_stop(s, m, n, p);
-    }
-    Verdict {
-        number: 0,
-        place: 0,
-    }
-}
-
-// P2: what is refused of the n samples from p on.
-fn plain_verdict(s: &[u8], m: u8, n: usize, p: usize) -> Verdict
-    requires { p ≤ length s.now }
-    ensures { result ≡ raster_from s.now true m n p }
-{
-    let mut i = p;
-    let mut left = n;
-    while 0 < left {
-        let t = plain_at(s, i);
-        if t.next <= t.first {
-            return Verdict {
-                number: 24,
-                place: t.first,
-            };
-        }
-        if (m as usize) < t.value {
-            return Verdict {
-                number: 23,
-                place: t.first,
-            };
-        }
-        i = t.next;
-        left -= 1;
-    }
-    Verdict {
-        number: 0,
-        place: 0,
-    }
-}
-
-// What is refused of the n samples from p on.
-pub fn raster_verdict(s: &[u8], plain: bool, m: u8, n: usize, p: usize) -> Verdict
-    requires { p ≤ length s.now }
-    ensures { result ≡ raster_from s.now plain m n p }
-{
-    if plain {
-        return plain_verdict(s, m, n, p);
-    }
-    raw_verdict(s, m, n, p)
-}
-
-// P5: copies n samples from p on.
-fn write_raw(s: &[u8], m: u8, n: usize, p: usize, room: &mut [u8])
-    requires { ((raster_from s.now false m n p).number ≡ 0) × (p ≤ length s.now) × (n ≤ length room.old) }
-    ensures { room.new ≡ samples_from s.now false n p ++ drop n room.old }
-{
-    let mut j = 0;
-    while j < n {
-        room[j] = s[p + j];
-        j += 1;
-    }
-}
-
-// P2: writes the n samples from p on.
-fn write_plain(s: &[u8], m: u8, n: usize, p: usize, room: &mut [u8])
-    requires { ((raster_from s.now true m n p).number ≡ 0) × (p ≤ length s.now) × (n ≤ length room.old) }
-    ensures { room.new ≡ samples_from s.now true n p ++ drop n room.old }
-{
-    let mut i = p;
-    let mut j = 0;
-    while j < n {
-        let t = plain_at(s, i);
-        room[j] = t.value as u8;
-        i = t.next;
-        j += 1;
-    }
-}
-
-// Writes the n samples from p on, none of which is refused.
-pub fn write_samples(s: &[u8], plain: bool, m: u8, n: usize, p: usize, room: &mut [u8])
-    requires { ((raster_from s.now plain m n p).number ≡ 0) × (p ≤ length s.now) × (n ≤ length room.old) }
-    ensures { room.new ≡ samples_from s.now plain n p ++ drop n room.old }
-{
-    if plain {
-        write_plain(s, m, n, p, room);
+    if r.plain {
+        plain_verdict(r)
     } else {
-        write_raw(s, m, n, p, room);
+        raw_verdict(r)
+    }
+}
+
+// P5: copies the samples.
+// A clause says that the room holds the samples: it is lent, and may be longer.
+fn write_raw(r: Raster<'_>, room: &mut [u8])
+    requires { (r.from.at + r.count ≤ length r.from.bytes.now) × (r.count ≤ length room.old) }
+    ensures { room.new ≡ samples_from r.entry.from.bytes.now false r.entry.count r.entry.from.at ++ drop r.entry.count room.old }
+{
+    let Cursor { bytes, at } = r.from;
+    room[..r.count].copy_from_slice(&bytes[at..at + r.count]);
+}
+
+// P2: writes the samples, none of which is refused.
+fn write_plain(r: Raster<'_>, room: &mut [u8])
+    requires { ((raster_from r.from.bytes.now true r.maximum r.count r.from.at).number ≡ 0) × (r.count ≤ length room.old) }
+    ensures { room.new ≡ samples_from r.entry.from.bytes.now true r.entry.count r.entry.from.at ++ drop r.entry.count room.old }
+{
+    let bytes = r.from.bytes;
+    let mut at = r.from.at;
+    for place in room[..r.count].iter_mut() {
+        let sample = plain_at(Cursor { bytes, at }).unwrap();
+        *place = sample.value as u8;
+        at = sample.next;
+    }
+}
+
+// Writes the samples, none of which is refused.
+pub fn write_samples(r: Raster<'_>, room: &mut [u8])
+    requires { ((raster_from r.from.bytes.now r.plain r.maximum r.count r.from.at).number ≡ 0) × (r.count ≤ length room.old) }
+    ensures { room.new ≡ samples_from r.entry.from.bytes.now r.entry.plain r.entry.count r.entry.from.at ++ drop r.entry.count room.old }
+{
+    if r.plain {
+        write_plain(r, room);
+    } else {
+        write_raw(r, room);
     }
 }

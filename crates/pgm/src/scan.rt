@@ -1,9 +1,9 @@
 // The header, byte by byte: gaps, numbers, and where it gave up.
-ghost use Rattle.std.specs.Prelude.{◌≡◌, true, ◌+◌, ◌-◌, ◌*◌, ◌≤◌, length};
-ghost use Rattle.form.specs.Reader.{is_digit};
+ghost use Rattle.std.specs.Prelude.{◌≡◌, ◌+◌, ◌-◌, ◌*◌, ◌≤◌, length, IfOk, MatchResult};
 ghost use Rattle.pgm.specs.Grammar.{is_end, is_white, in_gap, opened};
-ghost use Rattle.pgm.specs.Reader.{gap_end, number_at, field_at, stop, is_form, head_of, cap, capped, capped_head};
+ghost use Rattle.pgm.specs.Reader.{gap_end, number_at, field_at, stop, is_form, MagicRead, head_of, cap, capped, capped_head, number_told, head_told};
 
+use crate::cursor::Cursor;
 use crate::{Head, Number};
 use form::byte_at;
 
@@ -11,64 +11,47 @@ use form::byte_at;
 fn is_end(b: u8) -> bool
     ensures { result ≡ is_end b }
 {
-    if b == 10 {
-        return true;
-    }
-    b == 13
+    matches!(b, b'\n' | b'\r')
 }
 
 // Blank, TAB, LF or CR.
 pub fn is_white(b: u8) -> bool
     ensures { result ≡ is_white b }
 {
-    if b == 32 {
-        return true;
-    }
-    if b == 9 {
-        return true;
-    }
-    is_end(b)
+    matches!(b, b' ' | b'\t') || is_end(b)
 }
 
 // The byte belongs to a gap, with a comment open before it or not.
+// A bool, as in the definitions in_gap and opened: a comment is open or not.
 fn in_gap(comment: bool, b: u8) -> bool
     ensures { result ≡ in_gap comment b }
 {
-    if comment {
-        return true;
-    }
-    if is_white(b) {
-        return true;
-    }
-    b == 35
+    comment || is_white(b) || b == b'#'
 }
 
 // A comment is open after the byte.
 fn opened(comment: bool, b: u8) -> bool
     ensures { result ≡ opened comment b }
 {
-    if comment {
-        return !is_end(b);
-    }
-    b == 35
+    if comment { !is_end(b) } else { b == b'#' }
 }
 
-// The byte after the gap that begins at p.
-fn gap_end(s: &[u8], p: usize) -> usize
-    requires { p ≤ length s.now }
-    ensures { (result ≡ gap_end s.now p) × (result ≤ length s.now) }
+// The end of the gap that begins here.
+fn gap_end<'a>(c: Cursor<'a>) -> Cursor<'a>
+    ensures { (result.at ≡ gap_end c.entry.bytes.now c.entry.at) × (result.bytes.now ≡ c.entry.bytes.now) }
 {
+    let bytes = c.bytes;
     let mut comment = false;
-    let mut i = p;
-    while i < s.len() {
-        let b = s[i];
-        if !in_gap(comment, b) {
-            return i;
+    for at in c.at..bytes.len() {
+        if !in_gap(comment, bytes[at]) {
+            return Cursor { bytes, at };
         }
-        comment = opened(comment, b);
-        i += 1;
+        comment = opened(comment, bytes[at]);
     }
-    i
+    Cursor {
+        bytes,
+        at: bytes.len(),
+    }
 }
 
 // The greatest maximum that is read.
@@ -78,124 +61,94 @@ const MOST: usize = 255;
 const FITS: usize = 65535;
 
 // One digit more, as far as the value matters.
-fn more(v: usize, b: usize) -> usize
+fn more(v: usize, b: u8) -> usize
     requires { (v ≤ 65535) × (48 ≤ b) × (b ≤ 57) }
     ensures { (result ≡ cap (v * 10 + (b - 48))) × (result ≤ 65535) }
 {
-    let next = v * 10 + (b - 48);
-    if next <= FITS {
-        return next;
-    }
-    65535
+    (v * 10 + usize::from(b - b'0')).min(FITS)
 }
 
-// The number that begins at p.
-pub fn number_at(s: &[u8], p: usize) -> Number
-    requires { p ≤ length s.now }
-    ensures { (result ≡ capped (number_at s.now p)) × (result.first ≤ result.next) × (result.next ≤ length s.now) }
+// The number whose digits begin at `first` and end before `next`, if there are any.
+fn found(first: usize, value: usize, next: usize) -> Result<Number, usize>
+    ensures { result ≡ number_told (record { first = first; value = value; next = next }) }
 {
-    let mut v = 0;
-    let mut i = p;
-    while i < s.len() {
-        let b = s[i] as usize;
-        if b < 48 {
-            return Number {
-                first: p,
-                value: v,
-                next: i,
-            };
-        }
-        if 57 < b {
-            return Number {
-                first: p,
-                value: v,
-                next: i,
-            };
-        }
-        v = more(v, b);
-        i += 1;
-    }
-    Number {
-        first: p,
-        value: v,
-        next: i,
+    if first < next {
+        Ok(Number { first, value, next })
+    } else {
+        Err(first)
     }
 }
 
-// The header's number after the gap that begins at p.
-fn field_at(s: &[u8], p: usize) -> Number
-    requires { p ≤ length s.now }
-    ensures { (result ≡ capped (field_at s.now p)) × (result.first ≤ result.next) × (result.next ≤ length s.now) }
+// The number that begins here.
+pub fn number_at(c: Cursor<'_>) -> Result<Number, usize>
+    ensures { (result ≡ number_told (capped (number_at c.entry.bytes.now c.entry.at))) × IfOk result (λ n. n.next ≤ length c.entry.bytes.now) }
 {
-    let q = gap_end(s, p);
-    number_at(s, q)
+    let mut value = 0;
+    for i in c.at..c.bytes.len() {
+        if !c.bytes[i].is_ascii_digit() {
+            return found(c.at, value, i);
+        }
+        value = more(value, c.bytes[i]);
+    }
+    found(c.at, value, c.bytes.len())
+}
+
+// The header's number after the gap that begins here.
+fn field_at(c: Cursor<'_>) -> Result<Number, usize>
+    ensures { (result ≡ number_told (capped (field_at c.entry.bytes.now c.entry.at))) × IfOk result (λ n. n.next ≤ length c.entry.bytes.now) }
+{
+    number_at(gap_end(c))
 }
 
 // "5" or "2".
 fn is_form(b: u8) -> bool
     ensures { result ≡ is_form b }
 {
-    if b == 53 {
-        return true;
-    }
-    b == 50
+    matches!(b, b'5' | b'2')
 }
 
-// The header gave up at byte p.
-fn stopped(p: usize) -> Head
-    ensures { result ≡ stop p }
+// "P5" or "P2" and a byte of a gap: whether it is "P2", or the byte at which it gave up.
+fn read_magic(s: &[u8]) -> Result<bool, usize>
+    ensures { MatchResult result (λ plain. MagicRead s.now plain) (λ p. head_of s.now ≡ stop p) }
 {
-    Head {
-        ok: false,
-        plain: false,
-        width: 0,
-        height: 0,
-        maximum: 0,
-        at: p,
+    if byte_at(s, 0) != b'P' {
+        return Err(0);
     }
+    let form = byte_at(s, 1);
+    if !is_form(form) {
+        return Err(1);
+    }
+    if !in_gap(false, byte_at(s, 2)) {
+        return Err(2);
+    }
+    Ok(form == b'2')
 }
 
 // Reads the header.
-pub fn read_head(s: &[u8]) -> Head
-    ensures { (result ≡ capped_head (head_of s.now)) × (result.ok ≡ true → (result.at ≤ length s.now) × (result.maximum ≤ 255)) }
+pub fn read_head(s: &[u8]) -> Result<Head, usize>
+    ensures { (result ≡ head_told (capped_head (head_of s.now))) × IfOk result (λ h. h.at ≤ length s.now) }
 {
-    if byte_at(s, 0) != 80 {
-        return stopped(0);
+    let plain = read_magic(s)?;
+    let width = field_at(Cursor { bytes: s, at: 2 })?;
+    let height = field_at(Cursor {
+        bytes: s,
+        at: width.next,
+    })?;
+    let maximum = field_at(Cursor {
+        bytes: s,
+        at: height.next,
+    })?;
+    if maximum.value < 1 || MOST < maximum.value {
+        return Err(maximum.first);
     }
-    let f = byte_at(s, 1);
-    if !is_form(f) {
-        return stopped(1);
+    if !is_white(byte_at(s, maximum.next)) {
+        return Err(maximum.next);
     }
-    if !in_gap(false, byte_at(s, 2)) {
-        return stopped(2);
-    }
-    let w = field_at(s, 2);
-    if w.next <= w.first {
-        return stopped(w.first);
-    }
-    let h = field_at(s, w.next);
-    if h.next <= h.first {
-        return stopped(h.first);
-    }
-    let m = field_at(s, h.next);
-    if m.next <= m.first {
-        return stopped(m.first);
-    }
-    if m.value < 1 {
-        return stopped(m.first);
-    }
-    if MOST < m.value {
-        return stopped(m.first);
-    }
-    if !is_white(byte_at(s, m.next)) {
-        return stopped(m.next);
-    }
-    Head {
-        ok: true,
-        plain: f == 50,
-        width: w.value,
-        height: h.value,
-        maximum: m.value,
-        at: m.next + 1,
-    }
+    Ok(Head {
+        plain,
+        width: width.value,
+        height: height.value,
+        maximum: maximum.value as u8,
+        at: maximum.next + 1,
+    })
 }

@@ -27,7 +27,7 @@ use refuse::Answer;
 use trace::list;
 use tree::tree;
 
-// The piece call's answer as plain numbers.
+// The piece call's answer as plain numbers, which C reads as they stand.
 #[repr(C)]
 #[derive(Clone, Copy)]
 pub struct ToldPiece {

@@ -16,7 +16,7 @@ use Rattle.tally.proofs.Test.{by_test, no, both, and_1}
 use Rattle.tally.proofs.Count.{count_self, count_later, count_at, tally_eq}
 use Rattle.tally.proofs.First.{first_passes}
 use Rattle.refuse.specs.declared.Answer.{Answer}
-use Rattle.refuse.specs.declared.Verdict.{Verdict}
+use Rattle.refuse.specs.Refusal.{Verdict}
 use Rattle.matte.specs.Layout.{Layout, eight}
 use Rattle.matte.specs.Picture.{Picture, side_fits}
 use Rattle.refuse.specs.Refusal.{Row, row, answer, afterwards}

@@ -15,7 +15,7 @@ use Rattle.tally.specs.Tally.{one, count, tally, first_at, flat}
 use Rattle.tally.proofs.Test.{by_test, and_1}
 use Rattle.tally.proofs.Count.{count_at}
 use Rattle.tally.proofs.First.{first_is}
-use Rattle.refuse.specs.declared.Verdict.{Verdict}
+use Rattle.refuse.specs.Refusal.{Verdict}
 use Rattle.matte.specs.Layout.{eight}
 use Rattle.matte.specs.Picture.{Picture, size, at, high, side_fits, levels_fit}
 use Rattle.refuse.specs.Refusal.{levels_row, room_row}

@@ -14,7 +14,7 @@ use denote.Triple.Clauses.{Ended, Lasts, AtExit, at_exit}
 use Rattle.tally.specs.Tally.{tally}
 use Rattle.tally.proofs.Build.{build_length}
 use Rattle.refuse.specs.declared.Answer.{Answer}
-use Rattle.refuse.specs.declared.Verdict.{Verdict}
+use Rattle.refuse.specs.Refusal.{Verdict}
 use Rattle.matte.specs.Layout.{eight}
 use Rattle.matte.specs.Picture.{Picture, picture, size}
 use Rattle.refuse.specs.Refusal.{answer, afterwards}

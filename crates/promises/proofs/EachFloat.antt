@@ -16,7 +16,7 @@ use lib.Ieee.Exact.{HasValue}
 use lib.Ieee.Back.{round_whole}
 use borrow.Author.Tests.{not-true, eqb-true, eqb-false, ne_eqb}
 use Rattle.tally.proofs.Test.{by_test, no, and_1, and_2}
-use Rattle.refuse.specs.declared.Verdict.{Verdict}
+use Rattle.refuse.specs.Refusal.{Verdict}
 use Rattle.matte.specs.Layout.{eight}
 use Rattle.matte.specs.Picture.{Picture, at}
 use Rattle.edgel.specs.Edgel.{horizontal, column}

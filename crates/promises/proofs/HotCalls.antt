@@ -12,7 +12,7 @@ use lib.ListN.{length}
 use Rattle.tally.specs.Tally.{tally}
 use Rattle.tally.proofs.Test.{no}
 use Rattle.refuse.specs.declared.Answer.{Answer}
-use Rattle.refuse.specs.declared.Verdict.{Verdict}
+use Rattle.refuse.specs.Refusal.{Verdict}
 use Rattle.matte.specs.Layout.{Layout, eight}
 use Rattle.matte.specs.Picture.{Picture}
 use Rattle.refuse.specs.Refusal.{Row, row_at, verdict, answer, work_row, words_row}

@@ -13,7 +13,7 @@ use lib.Dec.{eqb, ltb}
 use borrow.Author.Tests.{eqb-true, eqb-false, eq-eqb, ne_eqb, ltb-true, ltb-false, lt-ltb, not-true, not-false}
 use Rattle.tally.proofs.Test.{by_test, no, and_1, and_2, both}
 use Rattle.tally.proofs.First.{from_is}
-use Rattle.refuse.specs.declared.Verdict.{Verdict}
+use Rattle.refuse.specs.Refusal.{Verdict}
 use Rattle.matte.specs.Layout.{Layout}
 use Rattle.matte.specs.Picture.{Picture, size, at, on_border, border_fits}
 use Rattle.refuse.specs.Refusal.{Row, row, verdict}

@@ -16,7 +16,7 @@ use borrow.Author.Tests.{eq-eqb, not-true, ltb-true, ltb-false}
 use Rattle.tally.specs.Tally.{tally}
 use Rattle.tally.proofs.Test.{by_test, no, and_1, and_2}
 use Rattle.refuse.specs.declared.Answer.{Answer}
-use Rattle.refuse.specs.declared.Verdict.{Verdict}
+use Rattle.refuse.specs.Refusal.{Verdict}
 use Rattle.matte.specs.Layout.{eight}
 use Rattle.matte.specs.Picture.{Picture}
 use Rattle.refuse.specs.Refusal.{Row, verdict, answer}

@@ -54,6 +54,18 @@ pub fn put_counts(s: &mut [u8], v: u8, count: u8, n: u32)
     put4(s, 12, n);
 }
 
+// Copies all of `from` over `to`. A function of its own with a loop: here it is known that the two do not overlap, which copy_from_slice does not tell.
+#[inline(never)]
+fn copy(to: &mut [u8], from: &[u8])
+    requires { length to.old ≡ length from.now }
+    ensures len { length to.new ≡ length to.old }
+    ensures after { to.new ≡ from.now }
+{
+    for i in 0..to.len() {
+        to[i] = from[i];
+    }
+}
+
 // Block 0.
 // A block is a part of the lent file, cut by a range, so it is a slice whose length a clause says.
 pub fn put_head(s: &mut [u8], size: Size, v: u8, levels: &[u8], n: usize)
@@ -63,7 +75,7 @@ pub fn put_head(s: &mut [u8], size: Size, v: u8, levels: &[u8], n: usize)
     let m = levels.len();
     put_sides(s, size);
     put_counts(s, v, m as u8, n as u32);
-    s[16..16 + m].copy_from_slice(levels);
+    copy(&mut s[16..16 + m], levels);
     close(s, 16 + m, 0);
 }
 

@@ -35,20 +35,20 @@ loop-y-preserved c =
     let r = rows_le a.size.width a.size.height S y (omega arith) in
     let n : i + a.size.width ≤ length c.loop-y.room = omega (arith, r, c.loop-y.invariant.long, c.requires.1) in
     let k : i + (i + a.size.width - i) ≡ i + a.size.width = omega arith in
-    let m : length c.copy_from_slice.new.self ≡ i + a.size.width - i = c.copy_from_slice.ensures.len ∙ length-between c.loop-y.room i (i + a.size.width) n in
+    let m : length c.copy.new.to ≡ i + a.size.width - i = c.copy.ensures.len ∙ length-between c.loop-y.room i (i + a.size.width) n in
     let e : i + a.size.width ≡ (y + 1) * a.size.width = omega arith in
-    let x : (j : ℕ) → i ≤ j → j < i + a.size.width → get_or c.copy_from_slice.new.self (j - i) 0 ≡ get_or a.px.now j 0 =
+    let x : (j : ℕ) → i ≤ j → j < i + a.size.width → get_or c.copy.new.to (j - i) 0 ≡ get_or a.px.now j 0 =
     λ j p q.
-    ap (λ (l : List ℕ). get_or l (j - i) 0) c.copy_from_slice.ensures.after
+    ap (λ (l : List ℕ). get_or l (j - i) 0) c.copy.ensures.after
     ∙ get_or-between a.px.now i (i + a.size.width) (j - i) 0 (omega arith)
     ∙ ap (λ (z : ℕ). get_or a.px.now z 0) (omega arith) in
     rw (← e)
-    (row_ends F (λ j. get_or a.px.now j 0) a.room.now c.loop-y.room (put_mid i (i + a.size.width - i) c.loop-y.room c.copy_from_slice.new.self) i (i + a.size.width) a.v
-    (omega (arith, S.w_least)) (omega (arith, n, m, same_len_mid i (i + a.size.width - i) c.loop-y.room c.copy_from_slice.new.self c.copy_from_slice.ensures.len)) c.loop-y.invariant
+    (row_ends F (λ j. get_or a.px.now j 0) a.room.now c.loop-y.room (put_mid i (i + a.size.width - i) c.loop-y.room c.copy.new.to) i (i + a.size.width) a.v
+    (omega (arith, S.w_least)) (omega (arith, n, m, same_len_mid i (i + a.size.width - i) c.loop-y.room c.copy.new.to c.copy.ensures.len)) c.loop-y.invariant
     (framing_on _ _ _ _ i (on_left_lem _ _ y i (omega (arith, S.w_least)) refl))
     (λ j p q. framing_off _ _ _ _ j (off_middle _ _ y j c.loop-y.auto.y t p q))
     (framing_on _ _ _ _ (i + a.size.width - 1) (on_right _ _ y (i + a.size.width - 1) (omega (arith, S.w_least)) (omega (arith, S.w_least))))
-    (λ f G q. filled_run f a.room.now c.loop-y.room c.copy_from_slice.new.self i (i + a.size.width - i) (i + a.size.width) G k n m (λ j o l. x j o l ∙ q j o l)))
+    (λ f G q. filled_run f a.room.now c.loop-y.room c.copy.new.to i (i + a.size.width - i) (i + a.size.width) G k n m (λ j o l. x j o l ∙ q j o l)))
 
 pub returns : goal.returns
 returns c =

@@ -4,4 +4,4 @@ use Rattle.pgm.proofs.Rows.{raw_copy}
 use Rattle.pgm.proofs.raster.write_raw.Goals as goal
 
 pub returns : goal.returns
-returns c = ap (λ (z : List ℕ). z ++ drop c.args.r.count c.args.room.now) (c.copy_from_slice.ensures.after ∙ raw_copy _ _ _ c.requires.0)
+returns c = ap (λ (z : List ℕ). z ++ drop c.args.r.count c.args.room.now) (c.copy.ensures.after ∙ raw_copy _ _ _ c.requires.0)

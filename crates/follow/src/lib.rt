@@ -61,7 +61,7 @@ fn go_east<T: Sample, P: Place>(
 {
     let i = s.place;
     put_tall(words, n, i, base);
-    through(px, w, k, Heading::East, i, i + w, i)
+    through::<T>(px, w, k.number(), Heading::East, i, i + w, i)
 }
 
 // The same of one that heads west. By hand, twice: where the heading is known, the step's table of moves folds away.
@@ -79,7 +79,7 @@ fn go_west<T: Sample, P: Place>(
 {
     let i = s.place;
     put_tall(words, n, i, base);
-    through(px, w, k, Heading::West, i - 1, i, i + w)
+    through::<T>(px, w, k.number(), Heading::West, i - 1, i, i + w)
 }
 
 // Stores a crossing of any heading, marks it if it is horizontal, and goes through its cell.
@@ -102,12 +102,12 @@ fn stride<T: Sample, P: Place>(
     match g {
         Heading::South => {
             put_flat(work, words, n, i, base, m);
-            through(px, w, k, Heading::South, i, i, i + 1)
+            through::<T>(px, w, k.number(), Heading::South, i, i, i + 1)
         }
         Heading::East => go_east(px, w, k, base, words, n, s),
         Heading::North => {
             put_flat(work, words, n, i, base, m);
-            through(px, w, k, Heading::North, i - w, i + 1, i)
+            through::<T>(px, w, k.number(), Heading::North, i - w, i + 1, i)
         }
         Heading::West => go_west(px, w, k, base, words, n, s),
     }

@@ -63,30 +63,32 @@ pub fn below_saddle<T: Sample>(k: T, p0: T, p1: T, p2: T, p3: T) -> bool
 }
 
 // The heading out of a cell whose far corners are high at the right hand and low at the left. Only here the ends of the entry are read: most cells do not come here.
-fn by_saddle<T: Sample>(px: &[u8], k: T, g: Heading, p1: T, p2: T, r: usize, l: usize) -> Heading
+fn by_saddle<T: Sample>(px: &[u8], k: u16, g: Heading, p1: T, p2: T, r: usize, l: usize) -> Heading
     requires { (r < length (samples_of T.wide px.now)) × (l < length (samples_of T.wide px.now)) }
-    ensures { result ≡ turnBy true false (saddle (T.value k) (four (get_or (samples_of T.wide px.now) r 0) (T.value p1) (T.value p2) (get_or (samples_of T.wide px.now) l 0))) g }
+    ensures { result ≡ turnBy true false (saddle k (four (get_or (samples_of T.wide px.now) r 0) (T.value p1) (T.value p2) (get_or (samples_of T.wide px.now) l 0))) g }
 {
-    if below_saddle(k, T::at(px, r), p1, p2, T::at(px, l)) {
+    let p0 = T::at(px, r).number();
+    let p3 = T::at(px, l).number();
+    if below_saddle(k, p0, p1.number(), p2.number(), p3) {
         return g.right();
     }
     g.left()
 }
 
 // The heading out of a cell that is entered with the heading g between the places r and l; a and b are the places ahead of them.
-fn turn<T: Sample>(px: &[u8], k: T, g: Heading, r: usize, a: usize, b: usize, l: usize) -> Heading
+fn turn<T: Sample>(px: &[u8], k: u16, g: Heading, r: usize, a: usize, b: usize, l: usize) -> Heading
     requires { (r < length (samples_of T.wide px.now)) × (a < length (samples_of T.wide px.now)) × (b < length (samples_of T.wide px.now)) × (l < length (samples_of T.wide px.now)) }
-    ensures { result ≡ turned (T.value k) g (four (get_or (samples_of T.wide px.now) r 0) (get_or (samples_of T.wide px.now) a 0) (get_or (samples_of T.wide px.now) b 0) (get_or (samples_of T.wide px.now) l 0)) }
+    ensures { result ≡ turned k g (four (get_or (samples_of T.wide px.now) r 0) (get_or (samples_of T.wide px.now) a 0) (get_or (samples_of T.wide px.now) b 0) (get_or (samples_of T.wide px.now) l 0)) }
 {
     let p1 = T::at(px, a);
     let p2 = T::at(px, b);
-    if k.is_below(p1) {
-        if k.is_below(p2) {
+    if k < p1.number() {
+        if k < p2.number() {
             return g.right();
         }
         return by_saddle(px, k, g, p1, p2, r, l);
     }
-    if k.is_below(p2) {
+    if k < p2.number() {
         return g;
     }
     g.left()
@@ -122,32 +124,32 @@ fn leave_by(w: usize, g: Heading, t: usize) -> State
 pub fn through<T: Sample>(
     px: &[u8],
     w: usize,
-    k: T,
+    k: u16,
     g: Heading,
     t: usize,
     r: usize,
     l: usize,
 ) -> State
     requires { (w ≤ 2048) × (length (samples_of T.wide px.now) ≤ most_places) × (t + w + 1 < length (samples_of T.wide px.now)) × (r ≡ right_end w g t) × (l ≡ left_end w g t) }
-    ensures { (h : ℕ) → result ≡ leaving w (leave (picture w h (samples_of T.wide px.now)) (T.value k) g t) t }
+    ensures { (h : ℕ) → result ≡ leaving w (leave (picture w h (samples_of T.wide px.now)) k g t) t }
 {
     let a = place_ahead(w, g, r);
     let b = place_ahead(w, g, l);
-    leave_by(w, turn(px, k, g, r, a, b, l), t)
+    leave_by(w, turn::<T>(px, k, g, r, a, b, l), t)
 }
 
 // The crossing after a crossing.
-pub fn advance<T: Sample>(px: &[u8], w: usize, k: T, s: State) -> State
+pub fn advance<T: Sample>(px: &[u8], w: usize, k: u16, s: State) -> State
     requires { Ready (samples_of T.wide px.now) w s }
-    ensures { (h : ℕ) → result ≡ after (picture w h (samples_of T.wide px.now)) (T.value k) s }
+    ensures { (h : ℕ) → result ≡ after (picture w h (samples_of T.wide px.now)) k s }
 {
     let g = s.heading;
     let i = s.place;
     match g {
-        Heading::South => through(px, w, k, Heading::South, i, i, i + 1),
-        Heading::East => through(px, w, k, Heading::East, i, i + w, i),
-        Heading::North => through(px, w, k, Heading::North, i - w, i + 1, i),
-        Heading::West => through(px, w, k, Heading::West, i - 1, i, i + w),
+        Heading::South => through::<T>(px, w, k, Heading::South, i, i, i + 1),
+        Heading::East => through::<T>(px, w, k, Heading::East, i, i + w, i),
+        Heading::North => through::<T>(px, w, k, Heading::North, i - w, i + 1, i),
+        Heading::West => through::<T>(px, w, k, Heading::West, i - 1, i, i + w),
     }
 }
 

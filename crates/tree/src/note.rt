@@ -82,7 +82,7 @@ fn note_line(
     let mut s = lead_state(e, k < px[e]);
     for _ in 0..2 * px.len() {
         put_note(px, st, starts, k, n, e, s, words);
-        s = advance(px, w, k, s);
+        s = advance::<u8>(px, w, u16::from(k), s);
         if at_lead(s, e) {
             return;
         }

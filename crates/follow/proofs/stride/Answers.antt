@@ -6,7 +6,7 @@ use Rattle.edgel.specs.declared.Heading.{Heading}
 use Rattle.edgel.specs.declared.Heading.TheVariants.{South, North}
 use Rattle.edgel.specs.Word.{word}
 use Rattle.store.specs.Store.{samples_of}
-use Rattle.step.specs.Step.{code_on}
+use Rattle.step.specs.Step.{code_on, after}
 use Rattle.step.proofs.Corner.{after_by}
 use Rattle.follow.proofs.Plain.{plain_word}
 use Rattle.follow.proofs.Places.{mark_flat, mark_tall}
@@ -20,7 +20,9 @@ returns-in-South g c =
     let k = S.value a.k in
     let L = layout_of S.wide in
     let U = g.P.Place.words a.words.now in (
-      λ h. c.through.ensures h ∙ sym (after_by (picture a.w h (samples_of S.wide a.px.now)) k a.s South c.in-South.is),
+      λ h.
+          let P = picture a.w h (samples_of S.wide a.px.now) in
+          c.through.ensures h ∙ sym (after_by P c.number.result a.s South c.in-South.is) ∙ ap (λ (z : ℕ). after P z a.s) c.number.ensures,
       c.put_flat.ensures.0 ∙ sym (mark_flat a.m a.work.now a.s (south_flat a.s c.in-South.is)),
       c.put_flat.ensures.1 ∙ ap (λ (v : ℕ). set U a.n v) (plain_word L (2 * a.s.place) k a.base c.requires.3.is) ∙ ap (λ (d : Heading). set U a.n (word L (code_on d a.s.place) k false)) (sym c.in-South.is),
     )
@@ -37,7 +39,9 @@ returns-in-North g c =
     let k = S.value a.k in
     let L = layout_of S.wide in
     let U = g.P.Place.words a.words.now in (
-      λ h. c.through-in-North.ensures h ∙ sym (after_by (picture a.w h (samples_of S.wide a.px.now)) k a.s North c.in-North.is),
+      λ h.
+          let P = picture a.w h (samples_of S.wide a.px.now) in
+          c.through-in-North.ensures h ∙ sym (after_by P c.number-in-North.result a.s North c.in-North.is) ∙ ap (λ (z : ℕ). after P z a.s) c.number-in-North.ensures,
       c.put_flat-in-North.ensures.0 ∙ sym (mark_flat a.m a.work.now a.s (north_flat a.s c.in-North.is)),
       c.put_flat-in-North.ensures.1 ∙ ap (λ (v : ℕ). set U a.n v) (plain_word L (2 * a.s.place) k a.base c.requires.3.is) ∙ ap (λ (d : Heading). set U a.n (word L (code_on d a.s.place) k false)) (sym c.in-North.is),
     )

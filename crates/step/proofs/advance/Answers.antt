@@ -10,22 +10,22 @@ pub returns-in-South : goal.returns-in-South
 returns-in-South g c h =
     let S = g.T.Sample in
     let a = c.args in
-    c.through.ensures h ∙ sym (after_by (picture a.w h (samples_of S.wide a.px.now)) (S.value a.k) a.s South c.in-South.is)
+    c.through.ensures h ∙ sym (after_by (picture a.w h (samples_of S.wide a.px.now)) a.k a.s South c.in-South.is)
 
 pub returns-in-East : goal.returns-in-East
 returns-in-East g c h =
     let S = g.T.Sample in
     let a = c.args in
-    c.through-in-East.ensures h ∙ sym (after_by (picture a.w h (samples_of S.wide a.px.now)) (S.value a.k) a.s East c.in-East.is)
+    c.through-in-East.ensures h ∙ sym (after_by (picture a.w h (samples_of S.wide a.px.now)) a.k a.s East c.in-East.is)
 
 pub returns-in-North : goal.returns-in-North
 returns-in-North g c h =
     let S = g.T.Sample in
     let a = c.args in
-    c.through-in-North.ensures h ∙ sym (after_by (picture a.w h (samples_of S.wide a.px.now)) (S.value a.k) a.s North c.in-North.is)
+    c.through-in-North.ensures h ∙ sym (after_by (picture a.w h (samples_of S.wide a.px.now)) a.k a.s North c.in-North.is)
 
 pub returns-in-West : goal.returns-in-West
 returns-in-West g c h =
     let S = g.T.Sample in
     let a = c.args in
-    c.through-in-West.ensures h ∙ sym (after_by (picture a.w h (samples_of S.wide a.px.now)) (S.value a.k) a.s West c.in-West.is)
+    c.through-in-West.ensures h ∙ sym (after_by (picture a.w h (samples_of S.wide a.px.now)) a.k a.s West c.in-West.is)

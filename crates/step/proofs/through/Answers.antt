@@ -13,5 +13,5 @@ returns g c h =
     let S = g.T.Sample in
     let a = c.args in
     let P = picture a.w h (samples_of S.wide a.px.now) in
-    let out : c.turn.result ≡ leave P (S.value a.k) a.g a.t = c.turn.ensures ∙ leave_from P (S.value a.k) a.g a.t a.r a.l _ _ c.requires.3 c.requires.4 c.place_ahead-a.ensures c.place_ahead-b.ensures in
+    let out : c.turn.result ≡ leave P a.k a.g a.t = c.turn.ensures ∙ leave_from P a.k a.g a.t a.r a.l _ _ c.requires.3 c.requires.4 c.place_ahead-a.ensures c.place_ahead-b.ensures in
     c.leave_by.ensures ∙ ap (λ (o : Heading). leaving a.w o a.t) out

@@ -1,8 +1,9 @@
 -- `tree::note::note_line` meets its contract: the loop is the walk of `Noting`. Assumes nothing.
-use Rattle.std.proofs.Common.{◌*◌, ◌/◌, ◌<◌, sym, ◌∙◌, refl, arith}
+use Rattle.std.proofs.Common.{ℕ, ◌*◌, ◌/◌, ◌<◌, sym, ap, ◌∙◌, refl, arith}
 use Rattle.std.proofs.lemmas.Bool.{eqb-true, eqb-false}
 use Rattle.matte.specs.Picture.{picture, high}
 use Rattle.count.proofs.Flat.{area_most}
+use Rattle.step.specs.Step.{after}
 use Rattle.follow.proofs.Tracing.{place_in}
 use Rattle.tree.proofs.Noting.{begin, go, stop, never, place_is, flat_here, set_off}
 use Rattle.tree.proofs.note.note_line.Goals as goal
@@ -47,14 +48,14 @@ returns-then-at_lead c =
     let p = c.requires in
     let a = c.args in
     let l = c.loop in
-    stop (picture a.w a.h a.px.now) p.ground a.k a.st.now a.n a.e p.lead a.words.now l.counter l.s l.words (l.invariant p.ground p.lead) c.advance-s.result (c.advance-s.ensures a.h) _ c.put_note.ensures
+    stop (picture a.w a.h a.px.now) p.ground a.k a.st.now a.n a.e p.lead a.words.now l.counter l.s l.words (l.invariant p.ground p.lead) c.advance-s.result (c.advance-s.ensures a.h ∙ ap (λ (z : ℕ). after (picture a.w a.h a.px.now) z l.s) c.from.ensures) _ c.put_note.ensures
     (eqb-true _ _ (sym c.at_lead.ensures ∙ c.if-at_lead.true))
 
 pub loop-preserved : goal.loop-preserved
 loop-preserved c =
     let a = c.args in
     let l = c.loop in
-    λ G o. go (picture a.w a.h a.px.now) G a.k a.st.now a.n a.e o a.words.now l.counter l.s l.words (l.invariant G o) c.advance-s.result (c.advance-s.ensures a.h) _ c.put_note.ensures
+    λ G o. go (picture a.w a.h a.px.now) G a.k a.st.now a.n a.e o a.words.now l.counter l.s l.words (l.invariant G o) c.advance-s.result (c.advance-s.ensures a.h ∙ ap (λ (z : ℕ). after (picture a.w a.h a.px.now) z l.s) c.from.ensures) _ c.put_note.ensures
     (eqb-false _ _ (sym c.at_lead.ensures ∙ c.if-at_lead.false))
 
 pub returns : goal.returns

@@ -155,8 +155,7 @@ fn border_median(size: Size, px: &[u8]) -> u8
     v.value
 }
 
-// Copies all of `from` over `to`. A function of its own with a loop: here it is known that the two do not overlap, which copy_from_slice does not tell.
-#[inline(never)]
+// Copies all of `from` over `to`. A function of its own with a loop: here it is known that the two do not overlap, which copy_from_slice does not tell. Out of line, small pictures take up to a third longer.
 fn copy(to: &mut [u8], from: &[u8])
     requires { length to.old ≡ length from.now }
     ensures len { length to.new ≡ length to.old }
